@@ -1,0 +1,5 @@
+pub mod Held
+pub mod Faults
+pub mod Durations
+pub mod Measures
+pub mod Bundles
