@@ -1,2 +1,3 @@
 pub mod Split
 pub mod Order
+pub mod Rounding

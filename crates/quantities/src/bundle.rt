@@ -3,6 +3,7 @@ ghost use Prim.Native.Nat.{_≤_};
 ghost use lib.ListN.{length};
 use crate::basis::DesignBasis;
 use crate::readings::Readings;
+
 pub mod gathering;
 
 // The most culms of a bundle.

@@ -1,6 +1,7 @@
 ghost use Prim.Native.Nat.{_≤_};
 ghost use lib.IntN.{natAbs};
 use crate::within::Within;
+
 pub mod measured;
 
 // An axial force in newtons: positive in compression, negative in tension.

@@ -1,4 +1,5 @@
 ghost use Prim.Native.Nat.{_≤_};
+
 pub mod held;
 
 // A whole number from LOW to HIGH.

@@ -20,12 +20,7 @@ impl AxialForce {
 
 impl Forces {
     // The forces of which the axial force stands in the field `first`, then shear and moment.
-    pub fn measured(
-        first: u8,
-        axial: i32,
-        shear: u32,
-        moment: u32,
-    ) -> Result<Forces, MeasureFault>
+    pub fn measured(first: u8, axial: i32, shear: u32, moment: u32) -> Result<Forces, MeasureFault>
         ensures { λ r. ⌜ r ≡ forces first axial shear moment ⌝ }
     {
         let first = u16::from(first);

@@ -1,0 +1,5 @@
+pub mod Sizes
+pub mod Allowable
+pub mod ShareSizes
+pub mod Rounded
+pub mod Pairs
