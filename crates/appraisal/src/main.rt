@@ -1,0 +1,51 @@
+// Appraises one bundle of culms and prints each step, from the readings to the told capacities.
+mod report;
+
+use quantities::basis::DesignBasis;
+use quantities::bundle::Bundle;
+use quantities::class::RawFactors;
+use quantities::class::ServiceClass;
+use quantities::duration::Duration;
+use quantities::fault::MeasureFault;
+use quantities::grade::Grade;
+use quantities::numbers::EffectiveLength;
+use quantities::readings::Readings;
+use std::error::AnyError;
+
+// The worked culm: 100.0 mm with a wall of 10.0 mm, straight, instantaneous load, 2 m long.
+fn worked_bundle() -> Result<Bundle, MeasureFault> {
+    let strength = RawFactors {
+        permanent: 55,
+        transient: 65,
+        instantaneous: 85,
+    };
+    let modulus = RawFactors {
+        permanent: 45,
+        transient: 95,
+        instantaneous: 100,
+    };
+    let basis = DesignBasis {
+        grade: Grade::measured(3, 658, 497, 984, 79, 1300)?,
+        class: ServiceClass::measured(3, strength, modulus)?,
+        duration: Duration::Instantaneous,
+        length: EffectiveLength::in_field(3, 2000)?,
+    };
+    let culm = Readings::measured(4, 1000, 100, 100)?;
+    Ok(Bundle::of(culm, basis))
+}
+
+fn run(rt: &LibcRuntime) -> Result<(), AnyError> {
+    match worked_bundle() {
+        Ok(bundle) => report::appraise(rt, &bundle),
+        Err(fault) => {
+            let number = fault.number();
+            let place = fault.place();
+            println!(rt, "NO\t{number}\t{place}")?;
+            Ok(())
+        }
+    }
+}
+
+fn main(rt: LibcRuntime) -> Result<(), AnyError> {
+    rt.report(run(&rt))
+}
