@@ -8,7 +8,7 @@ use Rattle.exact.specs.Fraction.{Fraction, over, whole, AtMost}
 use Rattle.exact.specs.Rounding.{Figured}
 use Rattle.quantities.specs.declared.basis.DesignBasis.{DesignBasis}
 use Rattle.quantities.specs.declared.readings.Readings.{Readings}
-use Rattle.capacity.specs.Capacities.{lowerPi, upperPi}
+use Rattle.exact.specs.Pi.{lowerPi, upperPi}
 use Rattle.capacity.specs.Told.{capacityOf, Tells}
 use Rattle.capacity.specs.declared.told.Capacity.{Capacity}
 use Rattle.capacity.specs.declared.told.Told.{Told}

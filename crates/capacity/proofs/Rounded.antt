@@ -12,7 +12,8 @@ use Rattle.exact.specs.Rounding.{Figured}
 use Rattle.exact.proofs.Rounding.{figured-sum, figured-once}
 use Rattle.quantities.specs.declared.basis.DesignBasis.{DesignBasis}
 use Rattle.quantities.specs.declared.readings.Readings.{Readings}
-use Rattle.capacity.specs.Capacities.{lowerPi, upperPi, momentFactor, momentCapacity, shearFactor, shearCapacity, axialCapacity, leastStraightness, bucklingFrom, bucklingCapacity}
+use Rattle.exact.specs.Pi.{lowerPi, upperPi}
+use Rattle.capacity.specs.Capacities.{momentFactor, momentCapacity, shearFactor, shearCapacity, axialCapacity, leastStraightness, bucklingFrom, bucklingCapacity}
 use Rattle.capacity.specs.Figures.{momentFigure, shearFigure, cubeBelow, bucklingFigure}
 use Rattle.capacity.specs.Shares.{momentShare, shearShare, axialShare}
 use Rattle.capacity.specs.Strengths.{bendingStrength, shearStrength, factoredStrength, factoredModulus}

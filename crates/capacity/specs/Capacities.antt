@@ -8,13 +8,6 @@ use Rattle.quantities.specs.declared.readings.Readings.{Readings}
 use Rattle.capacity.specs.Strengths.{bendingStrength, compressionStrength, tensionStrength, shearStrength, elasticModulus}
 use Rattle.capacity.specs.Terms.{ringArea, secondMoment, sectionModulus, shearArea}
 
--- π lies between these
-abbrev pub lowerPi : Fraction
-lowerPi = over 314159265 100000000
-
-abbrev pub upperPi : Fraction
-upperPi = over 314159266 100000000
-
 -- M_r = f_m × p / (32 × 10⁶) × Σ (D⁴ − d⁴) / D, in newton metres
 abbrev pub momentFactor : (p strength : Fraction) → Fraction
 momentFactor p strength = quotient (times strength p) (whole (32 * 1000000))

@@ -5,7 +5,8 @@ use Rattle.exact.specs.Fraction.{Fraction, over, whole, times}
 use Rattle.exact.specs.Rounding.{roundedDown, sumOfParts}
 use Rattle.quantities.specs.declared.basis.DesignBasis.{DesignBasis}
 use Rattle.quantities.specs.declared.readings.Readings.{Readings}
-use Rattle.capacity.specs.Capacities.{lowerPi, momentFactor, shearFactor, tensionCapacity, crushingCapacity, bucklingFrom}
+use Rattle.exact.specs.Pi.{lowerPi}
+use Rattle.capacity.specs.Capacities.{momentFactor, shearFactor, tensionCapacity, crushingCapacity, bucklingFrom}
 use Rattle.capacity.specs.Strengths.{bendingStrength, shearStrength}
 use Rattle.capacity.specs.Terms.{sectionModulus, shearArea}
 

@@ -3,7 +3,8 @@ use Prim.Native.Nat.{ℕ}
 use Rattle.exact.specs.Fraction.{over, whole, times, quotient}
 use Rattle.exact.specs.Rounding.{roundedDown}
 use Rattle.quantities.specs.declared.readings.Readings.{Readings}
-use Rattle.capacity.specs.Capacities.{lowerPi, momentFactor, shearFactor}
+use Rattle.exact.specs.Pi.{lowerPi}
+use Rattle.capacity.specs.Capacities.{momentFactor, shearFactor}
 use Rattle.capacity.specs.Figures.{momentScale, forceScale}
 use Rattle.capacity.specs.Terms.{sectionModulus, shearArea}
 

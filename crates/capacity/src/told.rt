@@ -2,7 +2,7 @@ ghost use Prim.Native.Nat.{_*_, _<_, _^_};
 ghost use Rattle.exact.specs.Fraction.{Fraction};
 ghost use Rattle.exact.specs.Rounding.{Figured};
 ghost use Rattle.quantities.specs.Bundles.{culmsOf};
-ghost use Rattle.capacity.specs.Capacities.{lowerPi, upperPi};
+ghost use Rattle.exact.specs.Pi.{lowerPi, upperPi};
 ghost use Rattle.capacity.specs.Told.{capacityOf, Tells};
 use crate::figures::buckling_figure;
 use crate::figures::crushing_figure;

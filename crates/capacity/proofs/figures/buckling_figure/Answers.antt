@@ -5,7 +5,8 @@ use Rattle.std.specs.shelf.Lists.{sumBy}
 use Rattle.exact.specs.Rounding.{Figured}
 use Rattle.quantities.specs.Bundles.{culmsOf}
 use Rattle.quantities.proofs.Bundled.{culms-some, culms-few}
-use Rattle.capacity.specs.Capacities.{lowerPi, upperPi, leastStraightness, bucklingCapacity}
+use Rattle.exact.specs.Pi.{lowerPi, upperPi}
+use Rattle.capacity.specs.Capacities.{leastStraightness, bucklingCapacity}
 use Rattle.capacity.specs.Terms.{secondMoment}
 use Rattle.capacity.proofs.Allowable.{Lies, in-range}
 use Rattle.capacity.proofs.Rounded.{buckling-sizes, second-moment-lies, buckling-is, buckling-figured}

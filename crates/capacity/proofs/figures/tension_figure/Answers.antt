@@ -3,7 +3,8 @@ use Prim.Native.Nat.{_<_, _^_}
 use Rattle.exact.specs.Rounding.{Figured}
 use Rattle.quantities.specs.Bundles.{culmsOf}
 use Rattle.quantities.proofs.Bundled.{culms-some}
-use Rattle.capacity.specs.Capacities.{lowerPi, upperPi, tensionCapacity}
+use Rattle.exact.specs.Pi.{lowerPi, upperPi}
+use Rattle.capacity.specs.Capacities.{tensionCapacity}
 use Rattle.capacity.specs.Strengths.{factoredStrength}
 use Rattle.capacity.proofs.Allowable.{strength-lies}
 use Rattle.capacity.proofs.Rounded.{axial-figured}
