@@ -1,0 +1,4 @@
+pub mod Algebra
+pub mod Literally
+pub mod Signs
+pub mod Ratios
