@@ -3,3 +3,4 @@ pub mod Allowable
 pub mod ShareSizes
 pub mod Rounded
 pub mod Pairs
+pub mod Positives
