@@ -158,6 +158,7 @@ scaled-proper k l pk p =
 pub laws-from-ratios : (P : Clause) → TurnsOnRatios P → ClauseLaws P
 laws-from-ratios P turns = record {
   turns-on-ratios = turns;
+  holds-before = λ c l m p pl pm grows. turns c c m l p p pm pl (lighter-by c c m l pm (itself-at-most c) grows);
   stays-broken = λ c l m p pl pm grows broken h.
       broken (turns c c m l p p pm pl (lighter-by c c m l pm (itself-at-most c) grows) h);
   eases = λ c d l p q pl le. turns c d l l p q pl pl (lighter-by c d l l pl le (itself-grown l));

@@ -62,7 +62,9 @@ TurnsOnRatios P = (c d : Capacities) (l m : Load) → PositiveAll c → Positive
 
 pub record ClauseLaws (P : Clause) : Type 0 where
   pub turns-on-ratios : TurnsOnRatios P
-  -- once broken, it stays broken while forces grow with their signs kept
+  -- what holds of a load holds of every load that it has grown from
+  pub holds-before : (c : Capacities) (l m : Load) → PositiveAll c → Proper l → Proper m → GrowsLoad l m → P c m → P c l
+  -- so once broken, it stays broken while forces grow with their signs kept
   pub stays-broken : (c : Capacities) (l m : Load) → PositiveAll c → Proper l → Proper m → GrowsLoad l m → (P c l → ⊥) → P c m → ⊥
   -- larger capacities break nothing
   pub eases : (c d : Capacities) (l : Load) → PositiveAll c → PositiveAll d → Proper l → AtMostAll c d → P c l → P d l

@@ -1,0 +1,5 @@
+pub mod Alike
+pub mod Sizes
+pub mod Figured
+pub mod Decided
+pub mod Soundness
