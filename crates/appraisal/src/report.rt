@@ -3,18 +3,33 @@ use capacity::strengths::factored_strength;
 use capacity::strengths::redundancy;
 use capacity::told::Capacity;
 use capacity::told::tell;
+use design_code::appraisal as code;
+use design_code::verdict::Verdict;
 use quantities::bundle::Bundle;
 use quantities::duration::Duration;
+use quantities::forces::Forces;
 use quantities::grade::Strength;
 use quantities::readings::Readings;
+use shop_code::bending::BendingClause;
+use shop_code::bending::BendingCode;
+use shop_code::compression::CompressionClause;
+use shop_code::compression::CompressionCode;
+use shop_code::shear::ShearClause;
+use shop_code::shear::ShearCode;
+use shop_code::shop::shop_verdict;
+use shop_code::tension::TensionClause;
+use shop_code::tension::TensionCode;
 use std::error::AnyError;
 
-// Prints what a bundle is, its allowable strengths and its capacities.
-pub fn appraise(rt: &LibcRuntime, bundle: &Bundle) -> Result<(), AnyError> {
+// Prints what a bundle is, its allowable strengths, its capacities and the verdict on it under forces.
+pub fn appraise(rt: &LibcRuntime, bundle: &Bundle, forces: Forces) -> Result<(), AnyError> {
     print_basis(rt, bundle)?;
     print_culms(rt, bundle.culms())?;
     print_strengths(rt, bundle)?;
-    print_capacities(rt, bundle)
+    print_capacities(rt, bundle)?;
+    print_forces(rt, forces)?;
+    print_clauses(rt, bundle, forces)?;
+    print_verdict(rt, shop_verdict(bundle, forces))
 }
 
 fn print_basis(rt: &LibcRuntime, bundle: &Bundle) -> Result<(), AnyError> {
@@ -79,7 +94,8 @@ fn print_strength(
     characteristic: Strength,
     ten_millionths: u8,
 ) -> Result<(), AnyError> {
-    let units = u64::from(factored_strength(bundle, characteristic).value) * u64::from(ten_millionths);
+    let units = u64::from(factored_strength(bundle, characteristic).value)
+        * u64::from(ten_millionths);
     let whole = units / 10000000;
     let fraction = units % 10000000;
     println!(rt, "  {name} {whole}.{fraction:07} MPa")?;
@@ -106,5 +122,49 @@ fn print_capacity(
     let lower = pair.lower;
     let upper = pair.upper;
     println!(rt, "  {name} {lower} to {upper} {unit}")?;
+    Ok(())
+}
+
+fn print_forces(rt: &LibcRuntime, forces: Forces) -> Result<(), AnyError> {
+    let axial = forces.axial.newtons;
+    let shear = forces.shear.value;
+    let moment = forces.moment.value;
+    println!(rt, "forces: N {axial} N, V {shear} N, M {moment} N m")?;
+    Ok(())
+}
+
+fn print_clauses(rt: &LibcRuntime, bundle: &Bundle, forces: Forces) -> Result<(), AnyError> {
+    println!(rt, "clauses:")?;
+    print_clause(
+        rt,
+        "1 bending",
+        code::appraise(&BendingCode {}, bundle, forces),
+    )?;
+    print_clause(rt, "2 shear", code::appraise(&ShearCode {}, bundle, forces))?;
+    print_clause(
+        rt,
+        "3 tension",
+        code::appraise(&TensionCode {}, bundle, forces),
+    )?;
+    print_clause(
+        rt,
+        "4 compression",
+        code::appraise(&CompressionCode {}, bundle, forces),
+    )
+}
+
+fn print_clause(rt: &LibcRuntime, name: &str, verdict: Verdict) -> Result<(), AnyError> {
+    match verdict {
+        Verdict::Met => println!(rt, "  {name}: met")?,
+        Verdict::Refused(_) => println!(rt, "  {name}: not accepted")?,
+    }
+    Ok(())
+}
+
+fn print_verdict(rt: &LibcRuntime, verdict: Verdict) -> Result<(), AnyError> {
+    match verdict {
+        Verdict::Met => println!(rt, "verdict: met")?,
+        Verdict::Refused(clause) => println!(rt, "verdict: refused, clause {clause} decides")?,
+    }
     Ok(())
 }

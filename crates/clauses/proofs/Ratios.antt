@@ -56,19 +56,19 @@ pub tension-turns : TurnsOnRatios Tension
 tension-turns c d l m p q pl pm less h =
     in-tension (m .axial .num) (λ n. TensionMet d (over n (m .axial .den)) (m .moment))
     (λ neg.
-        let t = less .tension neg in
-        tension-moves c d (size (l .axial)) (l .moment) (size (m .axial)) (m .moment) p (pl .axial) (pl .moment) (t .1) (less .moment)
-        (of-tension (l .axial .num) (λ n. TensionMet c (over n (l .axial .den)) (l .moment)) (t .0) h))
+    let t = less .tension neg in
+    tension-moves c d (size (l .axial)) (l .moment) (size (m .axial)) (m .moment) p (pl .axial) (pl .moment) (t .1) (less .moment)
+    (of-tension (l .axial .num) (λ n. TensionMet c (over n (l .axial .den)) (l .moment)) (t .0) h))
 
 pub compression-turns : TurnsOnRatios Compression
 compression-turns c d l m p q pl pm less h =
     in-compression (m .axial .num) (λ n. CompressionMet d (over n (m .axial .den)) (m .moment))
     (λ up.
-        let t = less .compression up in
-        compression-moves c d (size (l .axial)) (l .moment) (size (m .axial)) (m .moment) p q
-        (record { num = some-compression (l .axial .num) (t .0); den = pl .axial }) (pl .moment)
-        (record { num = some-compression (m .axial .num) up; den = pm .axial }) (pm .moment) (t .1) (t .2) (less .moment)
-        (of-compression (l .axial .num) (λ n. CompressionMet c (over n (l .axial .den)) (l .moment)) (t .0) h))
+    let t = less .compression up in
+    compression-moves c d (size (l .axial)) (l .moment) (size (m .axial)) (m .moment) p q
+    (record { num = some-compression (l .axial .num) (t .0); den = pl .axial }) (pl .moment)
+    (record { num = some-compression (m .axial .num) up; den = pm .axial }) (pm .moment) (t .1) (t .2) (less .moment)
+    (of-compression (l .axial .num) (λ n. CompressionMet c (over n (l .axial .den)) (l .moment)) (t .0) h))
 
 -- larger capacities and a load that has not grown yet
 lighter-by : (c d : Capacities) (l m : Load) → Proper l → AtMostAll c d → GrowsLoad m l → Lighter c l d m
@@ -79,8 +79,7 @@ lighter-by c d l m pl le grows = record {
       let g = grown-tension (m .axial .den) (l .axial .den) (pl .axial) (m .axial .num) (l .axial .num) (grows .axial) neg in
       (g .0, uses-less (size (m .axial)) (d .tension) (size (l .axial)) (c .tension) (g .1) (le .tension));
   compression = λ up.
-      let g = grown-compression (m .axial .den) (l .axial .den) (pl .axial) (m .axial .num) (l .axial .num) (grows .axial) up in
-      (
+      let g = grown-compression (m .axial .den) (l .axial .den) (pl .axial) (m .axial .num) (l .axial .num) (grows .axial) up in (
         g .0,
         uses-less (size (m .axial)) (d .crushing) (size (l .axial)) (c .crushing) (g .1) (le .crushing),
         uses-less (size (m .axial)) (d .buckling) (size (l .axial)) (c .buckling) (g .1) (le .buckling),

@@ -7,6 +7,6 @@ use Rattle.shop_code.specs.declared.figures.Units.{Units}
 
 pub units-same : {limit : ℕ} (u v : Units limit) → u .units ≡ v .units → u ≡ v
 units-same {limit} u v e = λ i. record {
-      units = e i;
-      below = isProp→PathP (λ j. e j < limit) (λ j. le-prop) (u .below) (v .below) i;
-    }
+  units = e i;
+  below = isProp→PathP (λ j. e j < limit) (λ j. le-prop) (u .below) (v .below) i;
+}

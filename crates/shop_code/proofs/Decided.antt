@@ -61,9 +61,9 @@ module _ (r s t c e : ℕ) (p : PositiveAll (figures r s t c e)) (m : ℕ) where
     λ h.
         in-compression z _
         (λ up. compression-size (natAbs z) (some-compression z up) .0
-            (of-compression z (λ n. CompressionWhole r e c (n * 65536) (m * 32768)) up h)),
+        (of-compression z (λ n. CompressionWhole r e c (n * 65536) (m * 32768)) up h)),
     λ h.
         in-compression z _
         (λ up. compression-size (natAbs z) (some-compression z up) .1
-            (of-compression z (λ n. CompressionMet k (over n 1) (whole m)) up h)),
+        (of-compression z (λ n. CompressionMet k (over n 1) (whole m)) up h)),
   )

@@ -3,3 +3,4 @@ pub mod Sizes
 pub mod Figured
 pub mod Decided
 pub mod Soundness
+pub mod Reading

@@ -86,8 +86,8 @@ tension-sound =
     (λ cs b f. PullsWithin (momentFigure cs b) (tensionFigure cs b) (f .axial .newtons) (f .moment .value))
     (λ cs b f. pullsWithin? (momentFigure cs b) (tensionFigure cs b) (f .axial .newtons) (f .moment .value))
     (λ cs b f n.
-        tension-decided (momentFigure cs b) (shearFigure cs b) (tensionFigure cs b) (crushingFigure cs b) (bucklingFigure cs b)
-        (figures-positive cs b n) (f .moment .value) (f .axial .newtons))
+    tension-decided (momentFigure cs b) (shearFigure cs b) (tensionFigure cs b) (crushingFigure cs b) (bucklingFigure cs b)
+    (figures-positive cs b n) (f .moment .value) (f .axial .newtons))
 
 pub compression-sound : Sound compressionMeaning
 compression-sound =
@@ -95,5 +95,5 @@ compression-sound =
     (λ cs b f. PressesWithin (momentFigure cs b) (bucklingFigure cs b) (crushingFigure cs b) (f .axial .newtons) (f .moment .value))
     (λ cs b f. pressesWithin? (momentFigure cs b) (bucklingFigure cs b) (crushingFigure cs b) (f .axial .newtons) (f .moment .value))
     (λ cs b f n.
-        compression-decided (momentFigure cs b) (shearFigure cs b) (tensionFigure cs b) (crushingFigure cs b) (bucklingFigure cs b)
-        (figures-positive cs b n) (f .moment .value) (f .axial .newtons))
+    compression-decided (momentFigure cs b) (shearFigure cs b) (tensionFigure cs b) (crushingFigure cs b) (bucklingFigure cs b)
+    (figures-positive cs b n) (f .moment .value) (f .axial .newtons))

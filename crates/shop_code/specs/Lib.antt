@@ -1,3 +1,4 @@
 pub mod Deciding
 pub mod Shop
 pub mod Figures
+pub mod Verdicts
