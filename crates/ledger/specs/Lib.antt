@@ -1,0 +1,5 @@
+pub mod Faults
+pub mod Ledger
+pub mod Orders
+pub mod Table
+pub mod Runs
