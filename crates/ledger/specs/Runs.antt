@@ -2,7 +2,7 @@
 use mathlib.Core.Bool.{Bool, true, false, cond}
 use mathlib.Core.List.{List, [], _∷_, _++_}
 use mathlib.Core.Path.{_≡_}
-use Prim.Native.Nat.{ℕ, _+_, _<_}
+use Prim.Native.Nat.{ℕ, suc, _+_, _<_}
 use lib.Dec.{eqb}
 use lib.ListN.{length, getD, take, replicate}
 use Rattle.std.specs.declared.option.Option.{Option}
@@ -200,7 +200,7 @@ pub record Whole (code : Meaning) (before after : Ledger) (calls : List Call) (g
   pub every-answer-is-the-tables : given ≡ answers (code .rule) before calls
   pub the-ledger-is-the-runs : after ≡ run (code .rule) before calls
   pub refused-calls-change-nothing : (i : ℕ) → i < length calls → isRefused (getD given i Done) ≡ true
-      → ledgerAt (code .rule) before calls (i + 1) ≡ ledgerAt (code .rule) before calls i
+      → ledgerAt (code .rule) before calls (suc i) ≡ ledgerAt (code .rule) before calls i
   pub standing-members-meet-every-clause : (past : List Call) → Began (code .rule) past before → StandingMeet code after
   pub accepted-questions-meet-every-clause : (past : List Call) → Began (code .rule) past before → (i : ℕ) (q : Question) → i < length calls
       → isRefused (getD given i Done) ≡ false → asked (ledgerAt (code .rule) before calls i) (callAt calls i) ≡ Some q → MeetsEveryClause code q
