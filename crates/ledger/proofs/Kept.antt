@@ -165,8 +165,8 @@ module _ (rule : Rule) (l : Ledger) (h : Good rule l) where
             subst (λ b. Owed rule b (lookup member-key k (replaced member-key x (l .members)))) (sym (same k))
             (⊎-elim
             (λ is. subst (λ j. Owed rule (bundle j (l .culms)) (lookup member-key j (replaced member-key x (l .members)))) (sym is)
-                (subst (Owed rule (bundle (x .number) (l .culms))) (sym (replacing-laws member-key x (l .members) .found t found))
-                (subst (λ j. OwedAt (x .stage) (Accepted rule (bundle j (l .culms)) x)) (sym is-m) o)))
+            (subst (Owed rule (bundle (x .number) (l .culms))) (sym (replacing-laws member-key x (l .members) .found t found))
+            (subst (λ j. OwedAt (x .stage) (Accepted rule (bundle j (l .culms)) x)) (sym is-m) o)))
             (λ other. subst (Owed rule (bundle k (l .culms))) (sym (replacing-laws member-key x (l .members) .others k other)) (h .owed k))
             (cases-eq k (x .number)));
       }
@@ -196,11 +196,11 @@ module _ (rule : Rule) (l : Ledger) (h : Good rule l) where
     owed = λ k.
         ⊎-elim
         (λ is. subst (Owed rule (bundle k (map (movedBy (released m)) (l .culms))))
-            (sym (ap (λ j. lookup member-key j (without member-key m (l .members))) is ∙ removing member-key m (l .members) .gone)) tt)
+        (sym (ap (λ j. lookup member-key j (without member-key m (l .members))) is ∙ removing member-key m (l .members) .gone)) tt)
         (λ other.
-            subst (Owed rule (bundle k (map (movedBy (released m)) (l .culms)))) (sym (removing member-key m (l .members) .others k other))
-            (subst (λ b. Owed rule b (memberAt l k))
-            (sym (joined-map culm-key (part k) (movedBy (released m)) (λ x. part-released m k x (x .place) other) (l .culms))) (h .owed k)))
+        subst (Owed rule (bundle k (map (movedBy (released m)) (l .culms)))) (sym (removing member-key m (l .members) .others k other))
+        (subst (λ b. Owed rule b (memberAt l k))
+        (sym (joined-map culm-key (part k) (movedBy (released m)) (λ x. part-released m k x (x .place) other) (l .culms))) (h .owed k)))
         (cases-eq k m);
   }
 
@@ -244,7 +244,7 @@ module _ (rule : Rule) (l : Ledger) (h : Good rule l) where
         owed = λ k.
             ⊎-elim
             (λ is. subst (λ j. Owed rule (bundle j (replaced culm-key x (l .culms))) (memberAt l j)) (sym is)
-                (subst (Owed rule (bundle m (replaced culm-key x (l .culms)))) (sym et) (nothing _)))
+            (subst (Owed rule (bundle m (replaced culm-key x (l .culms)))) (sym et) (nothing _)))
             (λ other. subst (λ b. Owed rule b (memberAt l k)) (sym (others k other)) (h .owed k)) (cases-eq k m);
       })
 
@@ -272,7 +272,7 @@ module _ (rule : Rule) (l : Ledger) (h : Good rule l) where
         owed = λ k.
             ⊎-elim
             (λ is. subst (λ j. Owed rule (bundle j (l .culms)) (lookup member-key j (added member-key t (l .members)))) (sym is)
-                (subst (Owed rule (bundle m (l .culms))) (sym (adding member-key t (l .members) .found)) (λ e. no-truth (sym e))))
+            (subst (Owed rule (bundle m (l .culms))) (sym (adding member-key t (l .members) .found)) (λ e. no-truth (sym e))))
             (λ other. subst (Owed rule (bundle k (l .culms))) (sym (adding member-key t (l .members) .others k other)) (h .owed k))
             (cases-eq k m);
       })

@@ -50,11 +50,11 @@ module _ {X : Type 0} (key : X → ℕ) where
       by-test (eqb (key y) (key x))
       (λ t. no-none (sym (cond-true _ _ _ t) ∙ e))
       (λ f.
-          let rest : lookup key (key x) ys ≡ None = sym (cond-false _ _ _ f) ∙ e in
-          let other : eqb (key x) (key y) ≡ false = ne-eqb (key x) (key y) (λ s. eqb-false (key y) (key x) f (sym s)) in
-          by-test (ltb (key y) (key x))
-          (λ t. subst Apart (sym (cond-true (ltb (key y) (key x)) _ _ t)) (lookup-added-other (key y) x ys other ∙ h, apart-added x ys rest a))
-          (λ g. subst Apart (sym (cond-false (ltb (key y) (key x)) _ _ g)) (e, (h, a))))
+      let rest : lookup key (key x) ys ≡ None = sym (cond-false _ _ _ f) ∙ e in
+      let other : eqb (key x) (key y) ≡ false = ne-eqb (key x) (key y) (λ s. eqb-false (key y) (key x) f (sym s)) in
+      by-test (ltb (key y) (key x))
+      (λ t. subst Apart (sym (cond-true (ltb (key y) (key x)) _ _ t)) (lookup-added-other (key y) x ys other ∙ h, apart-added x ys rest a))
+      (λ g. subst Apart (sym (cond-false (ltb (key y) (key x)) _ _ g)) (e, (h, a))))
 
   lookup-without-none : (n k : ℕ) (xs : List X) → lookup key n xs ≡ None → lookup key n (without key k xs) ≡ None
   lookup-without-none n k [] e = refl
@@ -62,8 +62,8 @@ module _ {X : Type 0} (key : X → ℕ) where
       by-test (eqb (key y) n)
       (λ t. no-none (sym (cond-true _ _ _ t) ∙ e))
       (λ f.
-          let rest = lookup-without-none n k ys (sym (cond-false _ _ _ f) ∙ e) in
-          by-test (eqb (key y) k) (λ t. rw t rest) (λ g. rw (g, f) rest))
+      let rest = lookup-without-none n k ys (sym (cond-false _ _ _ f) ∙ e) in
+      by-test (eqb (key y) k) (λ t. rw t rest) (λ g. rw (g, f) rest))
 
   pub apart-without : (k : ℕ) (xs : List X) → Apart xs → Apart (without key k xs)
   apart-without k [] a = tt
@@ -128,9 +128,9 @@ module _ {X : Type 0} (key : X → ℕ) where
     joined-replaced-same x r (y ∷ ys) (h, a) e s =
         by-test (eqb (key y) (key x))
         (λ t.
-            let is : y ≡ r = inside (sym (cond-true _ _ _ t) ∙ e) in
-            let lone : lookup key (key x) ys ≡ None = ap (λ n. lookup key n ys) (sym (eqb-true (key y) (key x) t)) ∙ h in
-            ap₂ _++_ (ap f (cond-true (eqb (key y) (key x)) _ _ t) ∙ s ∙ ap f (sym is)) (ap (joined f) (replaced-absent x ys lone)))
+        let is : y ≡ r = inside (sym (cond-true _ _ _ t) ∙ e) in
+        let lone : lookup key (key x) ys ≡ None = ap (λ n. lookup key n ys) (sym (eqb-true (key y) (key x) t)) ∙ h in
+        ap₂ _++_ (ap f (cond-true (eqb (key y) (key x)) _ _ t) ∙ s ∙ ap f (sym is)) (ap (joined f) (replaced-absent x ys lone)))
         (λ g. ap₂ _++_ (ap f (cond-false (eqb (key y) (key x)) _ _ g)) (joined-replaced-same x r ys a (sym (cond-false _ _ _ g) ∙ e) s))
 
     pub joined-without-none : (n : ℕ) (r : X) (xs : List X) → Apart xs → lookup key n xs ≡ Some r → f r ≡ [] → joined f (without key n xs) ≡ joined f xs
@@ -138,9 +138,9 @@ module _ {X : Type 0} (key : X → ℕ) where
     joined-without-none n r (y ∷ ys) (h, a) e s =
         by-test (eqb (key y) n)
         (λ t.
-            let is : y ≡ r = inside (sym (cond-true _ _ _ t) ∙ e) in
-            let lone : lookup key n ys ≡ None = ap (λ k. lookup key k ys) (sym (eqb-true (key y) n t)) ∙ h in
-            ap (joined f) (cond-true (eqb (key y) n) _ _ t ∙ without-absent n ys lone) ∙ sym (ap (λ z. z ++ joined f ys) (ap f is ∙ s)))
+        let is : y ≡ r = inside (sym (cond-true _ _ _ t) ∙ e) in
+        let lone : lookup key n ys ≡ None = ap (λ k. lookup key k ys) (sym (eqb-true (key y) n t)) ∙ h in
+        ap (joined f) (cond-true (eqb (key y) n) _ _ t ∙ without-absent n ys lone) ∙ sym (ap (λ z. z ++ joined f ys) (ap f is ∙ s)))
         (λ g. ap (joined f) (cond-false (eqb (key y) n) _ _ g) ∙ ap (λ z. f y ++ z) (joined-without-none n r ys a (sym (cond-false _ _ _ g) ∙ e) s))
 
     -- how long what is joined gets
@@ -150,28 +150,28 @@ module _ {X : Type 0} (key : X → ℕ) where
     length-replaced x r (y ∷ ys) (h, a) e =
         by-test (eqb (key y) (key x))
         (λ t.
-            let is : y ≡ r = inside (sym (cond-true _ _ _ t) ∙ e) in
-            let lone : lookup key (key x) ys ≡ None = ap (λ n. lookup key n ys) (sym (eqb-true (key y) (key x) t)) ∙ h in
-            let here : f (cond (eqb (key y) (key x)) x y) ≡ f x = ap f (cond-true (eqb (key y) (key x)) _ _ t) in
-            let rest : joined f (replaced key x ys) ≡ joined f ys = ap (joined f) (replaced-absent x ys lone) in
-            omega (
-              arith,
-              length-append (f (cond (eqb (key y) (key x)) x y)) (joined f (replaced key x ys)),
-              length-append (f y) (joined f ys),
-              ap length here,
-              ap length rest,
-              ap (λ z. length (f z)) is,
-            ))
+        let is : y ≡ r = inside (sym (cond-true _ _ _ t) ∙ e) in
+        let lone : lookup key (key x) ys ≡ None = ap (λ n. lookup key n ys) (sym (eqb-true (key y) (key x) t)) ∙ h in
+        let here : f (cond (eqb (key y) (key x)) x y) ≡ f x = ap f (cond-true (eqb (key y) (key x)) _ _ t) in
+        let rest : joined f (replaced key x ys) ≡ joined f ys = ap (joined f) (replaced-absent x ys lone) in
+        omega (
+          arith,
+          length-append (f (cond (eqb (key y) (key x)) x y)) (joined f (replaced key x ys)),
+          length-append (f y) (joined f ys),
+          ap length here,
+          ap length rest,
+          ap (λ z. length (f z)) is,
+        ))
         (λ g.
-            let more = length-replaced x r ys a (sym (cond-false _ _ _ g) ∙ e) in
-            let here : f (cond (eqb (key y) (key x)) x y) ≡ f y = ap f (cond-false (eqb (key y) (key x)) _ _ g) in
-            omega (
-              arith,
-              length-append (f (cond (eqb (key y) (key x)) x y)) (joined f (replaced key x ys)),
-              length-append (f y) (joined f ys),
-              ap length here,
-              more,
-            ))
+        let more = length-replaced x r ys a (sym (cond-false _ _ _ g) ∙ e) in
+        let here : f (cond (eqb (key y) (key x)) x y) ≡ f y = ap f (cond-false (eqb (key y) (key x)) _ _ g) in
+        omega (
+          arith,
+          length-append (f (cond (eqb (key y) (key x)) x y)) (joined f (replaced key x ys)),
+          length-append (f y) (joined f ys),
+          ap length here,
+          more,
+        ))
 
     pub length-without : (n : ℕ) (xs : List X) → length (joined f (without key n xs)) ≤ length (joined f xs)
     length-without n [] = omega arith
@@ -179,13 +179,13 @@ module _ {X : Type 0} (key : X → ℕ) where
         by-test (eqb (key y) n)
         (λ t. omega (arith, length-without n ys, ap (λ z. length (joined f z)) (cond-true (eqb (key y) n) (without key n ys) (y ∷ without key n ys) t), length-append (f y) (joined f ys)))
         (λ g.
-            omega (
-              arith,
-              length-without n ys,
-              ap (λ z. length (joined f z)) (cond-false (eqb (key y) n) (without key n ys) (y ∷ without key n ys) g),
-              length-append (f y) (joined f ys),
-              length-append (f y) (joined f (without key n ys)),
-            ))
+        omega (
+          arith,
+          length-without n ys,
+          ap (λ z. length (joined f z)) (cond-false (eqb (key y) n) (without key n ys) (y ∷ without key n ys) g),
+          length-append (f y) (joined f ys),
+          length-append (f y) (joined f (without key n ys)),
+        ))
 
   -- how many rows there are
   pub count-added : (x : X) (xs : List X) → length (added key x xs) ≡ length xs + 1
@@ -200,10 +200,10 @@ module _ {X : Type 0} (key : X → ℕ) where
   count-without n r (y ∷ ys) (h, a) e =
       by-test (eqb (key y) n)
       (λ t.
-          let lone : lookup key n ys ≡ None = ap (λ k. lookup key k ys) (sym (eqb-true (key y) n t)) ∙ h in
-          omega (arith, ap length (cond-true (eqb (key y) n) (without key n ys) (y ∷ without key n ys) t), ap length (without-absent {Y = X} (λ z. []) n ys lone)))
+      let lone : lookup key n ys ≡ None = ap (λ k. lookup key k ys) (sym (eqb-true (key y) n t)) ∙ h in
+      omega (arith, ap length (cond-true (eqb (key y) n) (without key n ys) (y ∷ without key n ys) t), ap length (without-absent {Y = X} (λ z. []) n ys lone)))
       (λ g.
-          omega (arith, ap length (cond-false (eqb (key y) n) (without key n ys) (y ∷ without key n ys) g), count-without n r ys a (sym (cond-false _ _ _ g) ∙ e)))
+      omega (arith, ap length (cond-false (eqb (key y) n) (without key n ys) (y ∷ without key n ys) g), count-without n r ys a (sym (cond-false _ _ _ g) ∙ e)))
 
   pub count-map : (f : X → X) (xs : List X) → length (map f xs) ≡ length xs
   count-map f [] = refl

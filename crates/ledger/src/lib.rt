@@ -4,3 +4,4 @@ pub mod call;
 pub mod culm;
 pub mod fault;
 pub mod member;
+pub mod runs;
