@@ -18,7 +18,7 @@ use Rattle.quantities.specs.declared.fault.MeasureFault.{MeasureFault}
 use Rattle.design_code.specs.Meaning.{Rule}
 use Rattle.keyed_table.specs.Rows.{lookup, added, without, replaced}
 use Rattle.keyed_table.proofs.Lookups.{by-test, adding, removing, replacing}
-use Rattle.ledger.specs.Ledger.{Ledger, culm-key, gradeAt, culmAt, at, raised, released, movedBy, onRack, heldBy, isHeld, isStanding, withCulms}
+use Rattle.ledger.specs.Ledger.{Ledger, culm-key, gradeAt, culmAt, at, raised, dropped, struck, movedBy, onRack, heldBy, isHeld, isStanding, withCulms}
 use Rattle.ledger.specs.Orders.{Order}
 use Rattle.ledger.specs.Orders.Order.{defineGrade, defineClass, addCulm, scrapCulm, openTicket, checkOut, checkIn, hold, free, judge, setMember, dropTicket, strike, load, judgeWithout, lookCulm, lookMember, lookCounts}
 use Rattle.ledger.specs.Runs.{isRefused, Addition, additionOf, scraps, oneIf, orderIn, addedBy, scrappedBy, ofNumber, additionIn}
@@ -66,8 +66,8 @@ module _ (rule : Rule) (l : Ledger) (h : Good rule l) where
   done-count (hold m n) p = omega (arith, changed-count (at (Held m)) (culmAt l n))
   done-count (free m n) p = omega (arith, changed-count (at Rack) (culmAt l n))
   done-count (setMember m) p = omega (arith, count-map culm-key (movedBy (raised m)) (l .culms))
-  done-count (dropTicket m) p = omega (arith, count-map culm-key (movedBy (released m)) (l .culms))
-  done-count (strike m) p = omega (arith, count-map culm-key (movedBy (released m)) (l .culms))
+  done-count (dropTicket m) p = omega (arith, count-map culm-key (movedBy (dropped m)) (l .culms))
+  done-count (strike m) p = omega (arith, count-map culm-key (movedBy (struck m)) (l .culms))
   done-count (defineGrade g x) p = refl
   done-count (defineClass s x) p = refl
   done-count (openTicket m x s d f) p = refl
@@ -161,8 +161,8 @@ module _ (rule : Rule) (l : Ledger) (h : Good rule l) (n : ℕ) (was : Option Ad
   done-traced (hold m k) p = let r = is-so onRack (culmAt l k) (p .1 .1 .1 .0) in traced-moved (Held m) k (r .0) (r .1)
   done-traced (free m k) p = let r = is-so (heldBy m) (culmAt l k) (p .1 .1 .1 .0) in traced-moved Rack k (r .0) (r .1)
   done-traced (setMember m) p = traced-map n (movedBy (raised m)) (λ c. refl) (λ c. refl) (l .culms) was t
-  done-traced (dropTicket m) p = traced-map n (movedBy (released m)) (λ c. refl) (λ c. refl) (l .culms) was t
-  done-traced (strike m) p = traced-map n (movedBy (released m)) (λ c. refl) (λ c. refl) (l .culms) was t
+  done-traced (dropTicket m) p = traced-map n (movedBy (dropped m)) (λ c. refl) (λ c. refl) (l .culms) was t
+  done-traced (strike m) p = traced-map n (movedBy (struck m)) (λ c. refl) (λ c. refl) (l .culms) was t
   done-traced (defineGrade g x) p = t
   done-traced (defineClass s x) p = t
   done-traced (openTicket m x s d f) p = t

@@ -18,7 +18,7 @@ use Rattle.design_code.specs.declared.verdict.Verdict.{Verdict}
 use Rattle.design_code.specs.declared.verdict.Verdict.the-variants.{Met, Refused as Against}
 use Rattle.keyed_table.specs.Rows.{lookup, added, without, replaced}
 use Rattle.keyed_table.proofs.Lookups.{by-test, adding, removing, replacing as replacing-laws}
-use Rattle.ledger.specs.Ledger.{Ledger, culm-key, member-key, gradeAt, classAt, culmAt, memberAt, Piece, pieceOf, partOf, bundle, at, staged, reloaded, raised, released, movedBy, onRack, heldBy, stands, inHand, outOfHand, isJudged, withCulms, withMembers, withGrades, withClasses}
+use Rattle.ledger.specs.Ledger.{Ledger, culm-key, member-key, gradeAt, classAt, culmAt, memberAt, Piece, pieceOf, partOf, bundle, at, staged, reloaded, raised, dropped, struck, movedBy, onRack, heldBy, stands, inHand, outOfHand, isJudged, withCulms, withMembers, withGrades, withClasses}
 use Rattle.ledger.specs.Orders.{Order}
 use Rattle.ledger.specs.Orders.Order.{defineGrade, defineClass, addCulm, scrapCulm, openTicket, checkOut, checkIn, hold, free, judge, setMember, dropTicket, strike, load, judgeWithout, lookCulm, lookMember, lookCounts}
 use Rattle.ledger.specs.Table.{Check, Question, questionOf, questionFor, verdictOn, refuses, ticketQuestion, loadQuestion, reloadedAt, absent, present, isNot, isSo, checksOf, doneBy, changedCulm, changedMember, newCulm, newTicket, handed, removed, firstOf, afterwards}
@@ -79,12 +79,17 @@ part-raised m k c Rack = refl
 part-raised m k c (Standing j) = refl
 part-raised m k c (Held j) = cond-both (eqb j m) (Standing j) (Held j) (λ q. partOf k c q ≡ partOf k c (Held j)) (λ _. refl) (λ _. refl)
 
-part-released : (m k : ℕ) (c : Culm) (p : Place) → k ≢ m → partOf k c (released m p) ≡ partOf k c p
-part-released m k c Rack ne = refl
-part-released m k c (Held j) ne =
+part-dropped : (m k : ℕ) (c : Culm) (p : Place) → k ≢ m → partOf k c (dropped m p) ≡ partOf k c p
+part-dropped m k c Rack ne = refl
+part-dropped m k c (Standing j) ne = refl
+part-dropped m k c (Held j) ne =
     cond-both (eqb j m) Rack (Held j) (λ q. partOf k c q ≡ partOf k c (Held j))
     (λ t. sym (cond-false (eqb j k) _ _ (ne-eqb j k (λ s. ne (sym s ∙ eqb-true j m t))))) (λ _. refl)
-part-released m k c (Standing j) ne =
+
+part-struck : (m k : ℕ) (c : Culm) (p : Place) → k ≢ m → partOf k c (struck m p) ≡ partOf k c p
+part-struck m k c Rack ne = refl
+part-struck m k c (Held j) ne = refl
+part-struck m k c (Standing j) ne =
     cond-both (eqb j m) Rack (Standing j) (λ q. partOf k c q ≡ partOf k c (Standing j))
     (λ t. sym (cond-false (eqb j k) _ _ (ne-eqb j k (λ s. ne (sym s ∙ eqb-true j m t))))) (λ _. refl)
 
@@ -93,11 +98,16 @@ length-part m c Rack = omega arith
 length-part m c (Held k) = cond-both (eqb k m) _ _ (λ z. length z ≤ 1) (λ _. omega arith) (λ _. omega arith)
 length-part m c (Standing k) = cond-both (eqb k m) _ _ (λ z. length z ≤ 1) (λ _. omega arith) (λ _. omega arith)
 
--- a released culm gives no more than before
-length-released : (m k : ℕ) (c : Culm) (p : Place) → length (partOf k c (released m p)) ≤ length (partOf k c p)
-length-released m k c Rack = omega arith
-length-released m k c (Held j) = cond-both (eqb j m) Rack (Held j) (λ q. length (partOf k c q) ≤ length (partOf k c (Held j))) (λ _. omega arith) (λ _. omega arith)
-length-released m k c (Standing j) =
+-- a culm that is let go gives no more than before
+length-dropped : (m k : ℕ) (c : Culm) (p : Place) → length (partOf k c (dropped m p)) ≤ length (partOf k c p)
+length-dropped m k c Rack = omega arith
+length-dropped m k c (Standing j) = omega arith
+length-dropped m k c (Held j) = cond-both (eqb j m) Rack (Held j) (λ q. length (partOf k c q) ≤ length (partOf k c (Held j))) (λ _. omega arith) (λ _. omega arith)
+
+length-struck : (m k : ℕ) (c : Culm) (p : Place) → length (partOf k c (struck m p)) ≤ length (partOf k c p)
+length-struck m k c Rack = omega arith
+length-struck m k c (Held j) = omega arith
+length-struck m k c (Standing j) =
     cond-both (eqb j m) Rack (Standing j) (λ q. length (partOf k c q) ≤ length (partOf k c (Standing j))) (λ _. omega arith) (λ _. omega arith)
 
 -- a bundle that the rule accepts for the member
@@ -177,32 +187,34 @@ module _ (rule : Rule) (l : Ledger) (h : Good rule l) where
       subst (λ w. Good rule (withMembers l (changedMember f w (l .members)))) (sym e)
       (member-kept m t (f t) (l .culms) e n (h .apart) (λ k. refl) o)
 
-  -- a ticket or member goes, and its culms go to the rack
-  length-released-all : (m k : ℕ) (cs : List Culm) → length (bundle k (map (movedBy (released m)) cs)) ≤ length (bundle k cs)
-  length-released-all m k [] = omega arith
-  length-released-all m k (c ∷ cs) =
-      omega (
-        arith,
-        length-append (partOf k c (released m (c .place))) (bundle k (map (movedBy (released m)) cs)),
-        length-append (partOf k c (c .place)) (bundle k cs),
-        length-released m k c (c .place),
-        length-released-all m k cs,
-      )
+  -- a ticket or member goes, and its culms are let go by f
+  module _ (m : ℕ) (f : Place → Place) (others : (k : ℕ) (c : Culm) (p : Place) → k ≢ m → partOf k c (f p) ≡ partOf k c p)
+      (less : (k : ℕ) (c : Culm) (p : Place) → length (partOf k c (f p)) ≤ length (partOf k c p)) where
+    length-moved : (k : ℕ) (cs : List Culm) → length (bundle k (map (movedBy f) cs)) ≤ length (bundle k cs)
+    length-moved k [] = omega arith
+    length-moved k (c ∷ cs) =
+        omega (
+          arith,
+          length-append (partOf k c (f (c .place))) (bundle k (map (movedBy f) cs)),
+          length-append (partOf k c (c .place)) (bundle k cs),
+          less k c (c .place),
+          length-moved k cs,
+        )
 
-  pub removed-kept : (m : ℕ) → Good rule (removed l m)
-  removed-kept m = record {
-    apart = apart-map culm-key (movedBy (released m)) (λ x. refl) (l .culms) (h .apart);
-    few = λ k. omega (arith, length-released-all m k (l .culms), h .few k);
-    owed = λ k.
-        ⊎-elim
-        (λ is. subst (Owed rule (bundle k (map (movedBy (released m)) (l .culms))))
-        (sym (ap (λ j. lookup member-key j (without member-key m (l .members))) is ∙ removing member-key m (l .members) .gone)) tt)
-        (λ other.
-        subst (Owed rule (bundle k (map (movedBy (released m)) (l .culms)))) (sym (removing member-key m (l .members) .others k other))
-        (subst (λ b. Owed rule b (memberAt l k))
-        (sym (joined-map culm-key (part k) (movedBy (released m)) (λ x. part-released m k x (x .place) other) (l .culms))) (h .owed k)))
-        (cases-eq k m);
-  }
+    removed-kept : Good rule (removed l m f)
+    removed-kept = record {
+      apart = apart-map culm-key (movedBy f) (λ x. refl) (l .culms) (h .apart);
+      few = λ k. omega (arith, length-moved k (l .culms), h .few k);
+      owed = λ k.
+          ⊎-elim
+          (λ is. subst (Owed rule (bundle k (map (movedBy f) (l .culms))))
+              (sym (ap (λ j. lookup member-key j (without member-key m (l .members))) is ∙ removing member-key m (l .members) .gone)) tt)
+          (λ other.
+              subst (Owed rule (bundle k (map (movedBy f) (l .culms)))) (sym (removing member-key m (l .members) .others k other))
+              (subst (λ b. Owed rule b (memberAt l k))
+              (sym (joined-map culm-key (part k) (movedBy f) (λ x. others k x (x .place) other) (l .culms))) (h .owed k)))
+          (cases-eq k m);
+    }
 
   handed-kept : (m : ℕ) (b : Bool) (t : Member) → memberAt l m ≡ Some t → Good rule (withMembers l (changedMember (handed b) (memberAt l m) (l .members)))
   handed-kept m b t e =
@@ -309,8 +321,8 @@ module _ (rule : Rule) (l : Ledger) (h : Good rule l) where
       (apart-map culm-key (movedBy (raised m)) (λ x. refl) (l .culms) (h .apart))
       (λ k. joined-map culm-key (part k) (movedBy (raised m)) (λ x. part-raised m k x (x .place)) (l .culms))
       (restaged rule (bundle m (l .culms)) (t .0) Stands a))
-  done-kept (dropTicket m) p = removed-kept m
-  done-kept (strike m) p = removed-kept m
+  done-kept (dropTicket m) p = removed-kept m (dropped m) (part-dropped m) (length-dropped m)
+  done-kept (strike m) p = removed-kept m (struck m) (part-struck m) (length-struck m)
   done-kept (load m d f) p =
       let t = is-so stands (memberAt l m) (p .0) in
       let a = standing-owes (t .0) (t .0 .stage) _ (subst (Owed rule (bundle m (l .culms))) (t .1) (h .owed m)) (t .2) in

@@ -84,16 +84,21 @@ staged s m = record { number = m .number; length = m .length; class = m .class; 
 abbrev pub reloaded : Duration → Forces → Member → Member
 reloaded d f m = record { number = m .number; length = m .length; class = m .class; factors = m .factors; duration = d; forces = f; stage = m .stage }
 
--- where setting m takes a culm, and where dropping or striking m does
+-- where setting, dropping and striking m take a culm
 abbrev pub raised : ℕ → Place → Place
 raised m Rack = Rack
 raised m (Held k) = cond (eqb k m) (Standing k) (Held k)
 raised m (Standing k) = Standing k
 
-abbrev pub released : ℕ → Place → Place
-released m Rack = Rack
-released m (Held k) = cond (eqb k m) Rack (Held k)
-released m (Standing k) = cond (eqb k m) Rack (Standing k)
+abbrev pub dropped : ℕ → Place → Place
+dropped m Rack = Rack
+dropped m (Held k) = cond (eqb k m) Rack (Held k)
+dropped m (Standing k) = Standing k
+
+abbrev pub struck : ℕ → Place → Place
+struck m Rack = Rack
+struck m (Held k) = Held k
+struck m (Standing k) = cond (eqb k m) Rack (Standing k)
 
 abbrev pub movedBy : (Place → Place) → Culm → Culm
 movedBy f c = at (f (c .place)) c

@@ -21,13 +21,14 @@ use Rattle.design_code.specs.Meaning.{Rule}
 use Rattle.design_code.specs.declared.verdict.Verdict.{Verdict}
 use Rattle.design_code.specs.declared.verdict.Verdict.the-variants.{Met, Refused as Against}
 use Rattle.keyed_table.specs.Rows.{lookup, added, without, replaced}
-use Rattle.ledger.specs.Ledger.{Ledger, culm-key, member-key, gradeAt, classAt, culmAt, memberAt, Piece, bundle, basisOf, at, staged, reloaded, raised, released, movedBy, onRack, heldBy, standsIn, isTicket, stands, inHand, outOfHand, isJudged, counts, withGrades, withClasses, withCulms, withMembers}
+use Rattle.ledger.specs.Ledger.{Ledger, culm-key, member-key, gradeAt, classAt, culmAt, memberAt, Piece, bundle, basisOf, at, staged, reloaded, raised, dropped, struck, movedBy, onRack, heldBy, standsIn, isTicket, stands, inHand, outOfHand, isJudged, counts, withGrades, withClasses, withCulms, withMembers}
 use Rattle.ledger.specs.Orders.{Order, measured}
 use Rattle.ledger.specs.Orders.Order.{defineGrade, defineClass, addCulm, scrapCulm, openTicket, checkOut, checkIn, hold, free, judge, setMember, dropTicket, strike, load, judgeWithout, lookCulm, lookMember, lookCounts}
 use Rattle.ledger.specs.declared.answer.Answer.{Answer}
 use Rattle.ledger.specs.declared.answer.Answer.the-variants.{Done, Refused, OneCulm, OneMember, AllCounts}
 use Rattle.ledger.specs.declared.call.Call.{Call}
 use Rattle.ledger.specs.declared.culm.Culm.{Culm}
+use Rattle.ledger.specs.declared.culm.Place.{Place}
 use Rattle.ledger.specs.declared.culm.Place.the-variants.{Rack, Held}
 use Rattle.ledger.specs.declared.fault.BookFault.{BookFault}
 use Rattle.ledger.specs.declared.fault.BookFault.the-variants.{Measure, AlreadyDefined, NotDefined, CulmKnown, CulmUnknown, CulmNotOnRack, NoCulmRow, MemberKnown, NotStanding, NoMemberRow, NoTicket, OtherState, BundleFull, OtherGrade, NotOfBundle, NoCulm, Clause}
@@ -198,9 +199,9 @@ newTicket m x s d f (Some c) ms =
 abbrev pub handed : Bool → Member → Member
 handed h m = staged (Ticket (isJudged m) h) m
 
--- the ticket or member goes, and its culms go to the rack
-abbrev pub removed : Ledger → ℕ → Ledger
-removed l m = withCulms (withMembers l (without member-key m (l .members))) (map (movedBy (released m)) (l .culms))
+-- the ticket or member m goes, and its culms move
+abbrev pub removed : Ledger → ℕ → (Place → Place) → Ledger
+removed l m f = withCulms (withMembers l (without member-key m (l .members))) (map (movedBy f) (l .culms))
 
 -- what an accepted call writes
 abbrev pub doneBy : Ledger → Order → Ledger
@@ -215,8 +216,8 @@ doneBy l (hold m n) = changeCulm l (at (Held m)) n
 doneBy l (free m n) = changeCulm l (at Rack) n
 doneBy l (judge m) = changeMember l (staged (Ticket true true)) m
 doneBy l (setMember m) = withCulms (changeMember l (staged Standing) m) (map (movedBy (raised m)) (l .culms))
-doneBy l (dropTicket m) = removed l m
-doneBy l (strike m) = removed l m
+doneBy l (dropTicket m) = removed l m (dropped m)
+doneBy l (strike m) = removed l m (struck m)
 doneBy l (load m d f) = changeMember l (reloaded d f) m
 doneBy l (judgeWithout m n) = l
 doneBy l (lookCulm n) = l

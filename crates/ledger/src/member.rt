@@ -1,3 +1,4 @@
+use keyed_table::Numbered;
 use quantities::class::ServiceClass;
 use quantities::duration::Duration;
 use quantities::forces::Forces;
@@ -20,4 +21,12 @@ pub struct Member {
     pub duration: Duration,
     pub forces: Forces,
     pub stage: Stage,
+}
+
+pub impl Numbered for Member as MemberNumbered {
+    ghost key = { λ m. m .number };
+
+    fn number(&self) -> u32 {
+        self.number
+    }
 }
