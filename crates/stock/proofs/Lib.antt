@@ -1,2 +1,4 @@
 pub mod Gathers
 pub mod Restored
+pub mod Wrapped
+pub mod Ghosts

@@ -1,16 +1,18 @@
 -- The culms in rows, and their bundles while one may be set aside. Assumes nothing.
-use mathlib.Core.Bool.{Bool, true, false, cond}
+use mathlib.Core.Bool.{Bool, cond}
 use mathlib.Core.List.{List, [], _∷_, map}
 use Prim.Native.Nat.{ℕ}
-use Rattle.std.specs.shelf.Lists.{joined}
+use Rattle.std.specs.shelf.Lists.{joined, countBy}
 use Rattle.std.specs.declared.option.Option.{Option}
 use Rattle.std.specs.declared.option.Option.the-variants.{Some, None}
 use Rattle.quantities.specs.Bundles.{culmsOf}
 use Rattle.quantities.specs.declared.bundle.Bundle.{Bundle}
-use Rattle.ledger.specs.Ledger.{Piece, partOf}
+use Rattle.ledger.specs.Ledger.{Piece, partOf, at}
 use Rattle.ledger.specs.Table.{Question}
 use Rattle.ledger.specs.declared.culm.Culm.{Culm}
 use Rattle.ledger.specs.declared.member.Member.{Member}
+use Rattle.stock.specs.Events.{placeAfter}
+use Rattle.stock.specs.declared.event.Event.{Event}
 use Rattle.stock.specs.declared.row.CulmRow.{CulmRow}
 
 abbrev pub row-key : CulmRow → ℕ
@@ -26,9 +28,9 @@ partIn m r = cond (r .aside) [] (partOf m (r .culm) (r .culm .place))
 abbrev pub bundleIn : ℕ → List CulmRow → List Piece
 bundleIn m rows = joined (partIn m) rows
 
-abbrev pub isAside : Option CulmRow → Bool
-isAside None = false
-isAside (Some r) = r .aside
+-- how many are set aside
+abbrev pub asideCount : List CulmRow → ℕ
+asideCount rows = countBy (λ r. r .aside) rows
 
 abbrev pub marked : Bool → CulmRow → CulmRow
 marked b r = record { culm = r .culm; aside = b }
@@ -37,3 +39,7 @@ marked b r = record { culm = r .culm; aside = b }
 abbrev pub asQuestion : Option Bundle → Member → Option Question
 asQuestion None m = None
 asQuestion (Some x) m = Some (record { culms = culmsOf x; basis = x .basis; forces = m .forces })
+
+-- a row whose culm an event has met
+abbrev pub travelled : Event → CulmRow → CulmRow
+travelled e r = record { culm = at (placeAfter (r .culm .place) e) (r .culm); aside = r .aside }

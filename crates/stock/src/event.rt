@@ -1,5 +1,10 @@
+ghost use mathlib.Core.Bool.{cond};
 ghost use mathlib.Core.Path.{_≡_};
+ghost use Rattle.std.specs.declared.option.Option.the-variants.{Some, None};
+ghost use Rattle.ledger.specs.Ledger.{at, onRack, heldBy};
+ghost use Rattle.ledger.specs.declared.culm.Place.the-variants.{Rack, Held};
 ghost use Rattle.stock.specs.Events.{meeting, placeAfter};
+use ledger::culm::Culm;
 use ledger::culm::Place;
 
 // What happens to a culm.
@@ -55,4 +60,46 @@ pub fn meet(place: &mut Place, event: Event) -> Meeting
         }
         _ => Meeting::Refused,
     }
+}
+
+// The culm held by the ticket, where it is on the rack.
+pub fn hold_culm(culm: Culm, member: u32) -> Option<Culm>
+    ensures { λ r. ⌜ r ≡ cond (onRack culm) (Some (at (Held member) culm)) None ⌝ }
+{
+    let mut place = culm.place;
+    match meet(&mut place, Event::Hold { member }) {
+        Meeting::Moved => Some(placed(culm, place)),
+        Meeting::Out | Meeting::Refused => None,
+    }
+}
+
+// The culm on the rack, where the ticket holds it.
+pub fn free_culm(culm: Culm, member: u32) -> Option<Culm>
+    ensures { λ r. ⌜ r ≡ cond (heldBy member culm) (Some (at Rack culm)) None ⌝ }
+{
+    let mut place = culm.place;
+    match meet(&mut place, Event::Free { member }) {
+        Meeting::Moved => Some(placed(culm, place)),
+        Meeting::Out | Meeting::Refused => None,
+    }
+}
+
+// Whether the culm may be scrapped.
+pub fn scraps(culm: &Culm) -> bool
+    ensures { λ r. ⌜ r ≡ onRack (now (culm .entry)) ⌝ }
+{
+    let mut place = culm.place;
+    match meet(&mut place, Event::Scrap) {
+        Meeting::Out => true,
+        Meeting::Moved | Meeting::Refused => false,
+    }
+}
+
+// The culm in another place.
+pub fn placed(culm: Culm, place: Place) -> Culm
+    ensures { λ r. ⌜ r ≡ at place culm ⌝ }
+{
+    let mut moved = culm;
+    moved.place = place;
+    moved
 }

@@ -3,3 +3,5 @@ pub mod aside;
 pub mod event;
 pub mod gather;
 pub mod row;
+pub mod stock;
+pub mod travel;

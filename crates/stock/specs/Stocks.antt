@@ -1,0 +1,33 @@
+-- What a stock holds, and what a call leaves alone. Assumes nothing.
+use mathlib.Core.List.{List}
+use mathlib.Core.Path.{_≡_}
+use Prim.Native.Nat.{ℕ, _≤_}
+use lib.ListN.{drop, length}
+use Rattle.keyed_table.specs.Tables.{content}
+use Rattle.ledger.specs.Ledger.{at, bundle}
+use Rattle.ledger.specs.declared.culm.Culm.{Culm}
+use Rattle.stock.specs.Events.{placeAfter}
+use Rattle.stock.specs.Rows.{culmsIn}
+use Rattle.stock.specs.declared.event.Event.{Event}
+use Rattle.stock.specs.declared.stock.Stock.{Stock}
+
+-- the culms, by rising number
+abbrev pub held : Stock → List Culm
+held s = culmsIn (content (s .rows))
+
+-- how many it may hold
+abbrev pub room : Stock → ℕ
+room s = s .rows .limit
+
+-- the room is as it was, and so is every row past it
+pub record Beyond (s t : Stock) : Type 0 where
+  pub limit : room t ≡ room s
+  pub rows : drop (room s) (t .rows .rows .now) ≡ drop (room s) (s .rows .rows .now)
+
+-- no bundle is too large
+abbrev pub Small : List Culm → Type 0
+Small cs = (m : ℕ) → length (bundle m cs) ≤ 16
+
+-- a culm that an event has met
+abbrev pub met-by : Event → Culm → Culm
+met-by e c = at (placeAfter (c .place) e) c
