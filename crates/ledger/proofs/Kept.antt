@@ -58,53 +58,53 @@ met Met e = refl
 met (Against k) e = no-truth e
 
 -- the parts of a culm in its places
-abbrev part : ℕ → Culm → List Piece
+abbrev pub part : ℕ → Culm → List Piece
 part m c = partOf m c (c .place)
 
-part-rack : (m : ℕ) (c : Culm) (p : Place) → onRack (at p c) ≡ true → partOf m c p ≡ []
+pub part-rack : (m : ℕ) (c : Culm) (p : Place) → onRack (at p c) ≡ true → partOf m c p ≡ []
 part-rack m c Rack e = refl
 part-rack m c (Held k) e = no-truth (sym e)
 part-rack m c (Standing k) e = no-truth (sym e)
 
-part-held-other : (m k : ℕ) (c : Culm) → k ≢ m → partOf k c (Held m) ≡ []
+pub part-held-other : (m k : ℕ) (c : Culm) → k ≢ m → partOf k c (Held m) ≡ []
 part-held-other m k c ne = cond-false (eqb m k) _ _ (ne-eqb m k (λ e. ne (sym e)))
 
-part-of-holder : (m k : ℕ) (c : Culm) (p : Place) → heldBy m (at p c) ≡ true → k ≢ m → partOf k c p ≡ []
+pub part-of-holder : (m k : ℕ) (c : Culm) (p : Place) → heldBy m (at p c) ≡ true → k ≢ m → partOf k c p ≡ []
 part-of-holder m k c Rack e ne = refl
 part-of-holder m k c (Standing j) e ne = no-truth (sym e)
 part-of-holder m k c (Held j) e ne = cond-false (eqb j k) _ _ (ne-eqb j k (λ s. ne (sym s ∙ eqb-true j m e)))
 
-part-raised : (m k : ℕ) (c : Culm) (p : Place) → partOf k c (raised m p) ≡ partOf k c p
+pub part-raised : (m k : ℕ) (c : Culm) (p : Place) → partOf k c (raised m p) ≡ partOf k c p
 part-raised m k c Rack = refl
 part-raised m k c (Standing j) = refl
 part-raised m k c (Held j) = cond-both (eqb j m) (Standing j) (Held j) (λ q. partOf k c q ≡ partOf k c (Held j)) (λ _. refl) (λ _. refl)
 
-part-dropped : (m k : ℕ) (c : Culm) (p : Place) → k ≢ m → partOf k c (dropped m p) ≡ partOf k c p
+pub part-dropped : (m k : ℕ) (c : Culm) (p : Place) → k ≢ m → partOf k c (dropped m p) ≡ partOf k c p
 part-dropped m k c Rack ne = refl
 part-dropped m k c (Standing j) ne = refl
 part-dropped m k c (Held j) ne =
     cond-both (eqb j m) Rack (Held j) (λ q. partOf k c q ≡ partOf k c (Held j))
     (λ t. sym (cond-false (eqb j k) _ _ (ne-eqb j k (λ s. ne (sym s ∙ eqb-true j m t))))) (λ _. refl)
 
-part-struck : (m k : ℕ) (c : Culm) (p : Place) → k ≢ m → partOf k c (struck m p) ≡ partOf k c p
+pub part-struck : (m k : ℕ) (c : Culm) (p : Place) → k ≢ m → partOf k c (struck m p) ≡ partOf k c p
 part-struck m k c Rack ne = refl
 part-struck m k c (Held j) ne = refl
 part-struck m k c (Standing j) ne =
     cond-both (eqb j m) Rack (Standing j) (λ q. partOf k c q ≡ partOf k c (Standing j))
     (λ t. sym (cond-false (eqb j k) _ _ (ne-eqb j k (λ s. ne (sym s ∙ eqb-true j m t))))) (λ _. refl)
 
-length-part : (m : ℕ) (c : Culm) (p : Place) → length (partOf m c p) ≤ 1
+pub length-part : (m : ℕ) (c : Culm) (p : Place) → length (partOf m c p) ≤ 1
 length-part m c Rack = omega arith
 length-part m c (Held k) = cond-both (eqb k m) _ _ (λ z. length z ≤ 1) (λ _. omega arith) (λ _. omega arith)
 length-part m c (Standing k) = cond-both (eqb k m) _ _ (λ z. length z ≤ 1) (λ _. omega arith) (λ _. omega arith)
 
 -- a culm that is let go gives no more than before
-length-dropped : (m k : ℕ) (c : Culm) (p : Place) → length (partOf k c (dropped m p)) ≤ length (partOf k c p)
+pub length-dropped : (m k : ℕ) (c : Culm) (p : Place) → length (partOf k c (dropped m p)) ≤ length (partOf k c p)
 length-dropped m k c Rack = omega arith
 length-dropped m k c (Standing j) = omega arith
 length-dropped m k c (Held j) = cond-both (eqb j m) Rack (Held j) (λ q. length (partOf k c q) ≤ length (partOf k c (Held j))) (λ _. omega arith) (λ _. omega arith)
 
-length-struck : (m k : ℕ) (c : Culm) (p : Place) → length (partOf k c (struck m p)) ≤ length (partOf k c p)
+pub length-struck : (m k : ℕ) (c : Culm) (p : Place) → length (partOf k c (struck m p)) ≤ length (partOf k c p)
 length-struck m k c Rack = omega arith
 length-struck m k c (Held j) = omega arith
 length-struck m k c (Standing j) =
@@ -151,6 +151,22 @@ stage-stands t Stands j = refl
 restaged : (rule : Rule) (b : List Piece) (r : Member) (s : Stage) → Accepted rule b r → Accepted rule b (staged s r)
 restaged rule [] r s a = no-none (sym (a .about))
 restaged rule (c ∷ cs) r s a = record { question = a .question; about = a .about; is-met = a .is-met }
+
+-- a culm moves to or from m: m's bundle stays small, and no other bundle changes
+module _ (cs : List Culm) (a : Apart culm-key cs) (m n : ℕ) (to : Place) (r : Culm) (er : lookup culm-key n cs ≡ Some r)
+    (same : (k : ℕ) → k ≢ m → partOf k r to ≡ partOf k r (r .place)) where
+  own-row : lookup culm-key (r .number) cs ≡ Some r
+  own-row = ap (λ k. lookup culm-key k cs) (lookup-key culm-key n cs r er) ∙ er
+
+  pub moved-others : (k : ℕ) → k ≢ m → bundle k (replaced culm-key (at to r) cs) ≡ bundle k cs
+  moved-others k other = joined-replaced-same culm-key (part k) (at to r) r cs a own-row (same k other)
+
+  pub moved-few : ((k : ℕ) → length (bundle k cs) ≤ 16) → length (bundle m cs) + length (partOf m r to) ≤ 16 + length (partOf m r (r .place))
+      → (k : ℕ) → length (bundle k (replaced culm-key (at to r) cs)) ≤ 16
+  moved-few few small k =
+      let sizes = length-replaced culm-key (part m) (at to r) r cs a own-row in
+      ⊎-elim (λ is. subst (λ j. length (bundle j (replaced culm-key (at to r) cs)) ≤ 16) (sym is) (omega (arith, sizes)))
+      (λ other. subst (λ b. length b ≤ 16) (sym (moved-others k other)) (few k)) (cases-eq k m)
 
 module _ (rule : Rule) (l : Ledger) (h : Good rule l) where
   -- the culms change, and no bundle does
@@ -208,11 +224,11 @@ module _ (rule : Rule) (l : Ledger) (h : Good rule l) where
       owed = λ k.
           ⊎-elim
           (λ is. subst (Owed rule (bundle k (map (movedBy f) (l .culms))))
-              (sym (ap (λ j. lookup member-key j (without member-key m (l .members))) is ∙ removing member-key m (l .members) .gone)) tt)
+          (sym (ap (λ j. lookup member-key j (without member-key m (l .members))) is ∙ removing member-key m (l .members) .gone)) tt)
           (λ other.
-              subst (Owed rule (bundle k (map (movedBy f) (l .culms)))) (sym (removing member-key m (l .members) .others k other))
-              (subst (λ b. Owed rule b (memberAt l k))
-              (sym (joined-map culm-key (part k) (movedBy f) (λ x. others k x (x .place) other) (l .culms))) (h .owed k)))
+          subst (Owed rule (bundle k (map (movedBy f) (l .culms)))) (sym (removing member-key m (l .members) .others k other))
+          (subst (λ b. Owed rule b (memberAt l k))
+          (sym (joined-map culm-key (part k) (movedBy f) (λ x. others k x (x .place) other) (l .culms))) (h .owed k)))
           (cases-eq k m);
     }
 
@@ -243,16 +259,11 @@ module _ (rule : Rule) (l : Ledger) (h : Good rule l) where
       → ((k : ℕ) → k ≢ m → partOf k r to ≡ partOf k r (r .place)) → Good rule (withCulms l (changedCulm (at to) (culmAt l n) (l .culms)))
   moved-kept m n to r t et er nothing small same =
       let x = at to r in
-      let e : lookup culm-key (r .number) (l .culms) ≡ Some r = ap (λ k. lookup culm-key k (l .culms)) (lookup-key culm-key n (l .culms) r er) ∙ er in
-      let sizes = length-replaced culm-key (part m) x r (l .culms) (h .apart) e in
-      let others : (k : ℕ) → k ≢ m → bundle k (replaced culm-key x (l .culms)) ≡ bundle k (l .culms) =
-      λ k other. joined-replaced-same culm-key (part k) x r (l .culms) (h .apart) e (same k other) in
+      let others = moved-others (l .culms) (h .apart) m n to r er same in
       subst (λ o. Good rule (withCulms l (changedCulm (at to) o (l .culms)))) (sym er)
       (record {
         apart = apart-replaced culm-key x (l .culms) (h .apart);
-        few = λ k.
-            ⊎-elim (λ is. subst (λ j. length (bundle j (replaced culm-key x (l .culms))) ≤ 16) (sym is) (omega (arith, sizes)))
-            (λ other. subst (λ b. length b ≤ 16) (sym (others k other)) (h .few k)) (cases-eq k m);
+        few = moved-few (l .culms) (h .apart) m n to r er same (h .few) small;
         owed = λ k.
             ⊎-elim
             (λ is. subst (λ j. Owed rule (bundle j (replaced culm-key x (l .culms))) (memberAt l j)) (sym is)

@@ -11,11 +11,12 @@ use Rattle.std.specs.declared.option.Option.the-variants.{Some, None}
 use Rattle.quantities.specs.Bundles.{culmsOf}
 use Rattle.quantities.specs.declared.bundle.Bundle.{Bundle}
 use Rattle.ledger.specs.Ledger.{Piece, basisOf}
-use Rattle.ledger.specs.Table.{Question, questionOf}
+use Rattle.ledger.specs.Table.{Question, questionOf, gradeHeld}
 use Rattle.ledger.specs.declared.member.Member.{Member}
 use Rattle.ledger.proofs.Numbered.{no-none, inside}
-use Rattle.stock.specs.Gathering.{extended, Room}
-use Rattle.stock.specs.Rows.{asQuestion}
+use Rattle.stock.specs.Gathering.{extended, Room, firstGrade}
+use Rattle.stock.specs.Rows.{asQuestion, bundleIn, partIn}
+use Rattle.stock.specs.declared.row.CulmRow.{CulmRow}
 
 joined-append : {X Y : Type 0} (f : X → List Y) (xs ys : List X) → joined f (xs ++ ys) ≡ joined f xs ++ joined f ys
 joined-append f [] ys = refl
@@ -61,3 +62,25 @@ one-more o x ps here p m e f h =
 
 pub none-more : (o : Option Bundle) (ps here : List Piece) (m : Member) → asQuestion o m ≡ questionOf ps m → here ≡ [] → asQuestion o m ≡ questionOf (ps ++ here) m
 none-more o ps here m e h = e ∙ ap (λ z. questionOf z m) (sym (append-nil ps) ∙ ap (λ z. ps ++ z) (sym h))
+
+pub grade-more : (ps here : List Piece) (p : Piece) → here ≡ p ∷ [] → gradeHeld (ps ++ here) ≡ firstGrade (gradeHeld ps) (p .grade)
+grade-more [] here p h = ap gradeHeld h
+grade-more (q ∷ ps) here p h = refl
+
+pub grade-none : (ps here : List Piece) → here ≡ [] → gradeHeld (ps ++ here) ≡ gradeHeld ps
+grade-none ps here h = ap gradeHeld (ap (λ z. ps ++ z) h ∙ append-nil ps)
+
+-- one row more
+pub next-row : (m : ℕ) (rows : List CulmRow) (i : ℕ) (row : CulmRow) → i < length rows → row ≡ getD rows i row
+    → bundleIn m (take (i + 1) rows) ≡ bundleIn m (take i rows) ++ partIn m row
+next-row m rows i row h e = joined-next (partIn m) rows i row h ∙ ap (λ r. bundleIn m (take i rows) ++ partIn m r) (sym e)
+
+pub small-before : (m : ℕ) (rows : List CulmRow) (i : ℕ) (row : CulmRow) → i < length rows → row ≡ getD rows i row → length (partIn m row) ≡ 1
+    → length (bundleIn m rows) ≤ 16 → length (bundleIn m (take i rows)) < 16
+small-before m rows i row h e one few =
+    omega (
+      arith,
+      ap length (next-row m rows i row h e),
+      length-append (bundleIn m (take i rows)) (partIn m row),
+      joined-part (partIn m) rows (i + 1),
+    )

@@ -2,3 +2,4 @@ pub mod Gathers
 pub mod Restored
 pub mod Wrapped
 pub mod Ghosts
+pub mod Moving

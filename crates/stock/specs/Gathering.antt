@@ -1,6 +1,6 @@
 -- A question about one culm more. Assumes nothing.
 use mathlib.Core.List.{List, [], _∷_, _++_}
-use Prim.Native.Nat.{_<_}
+use Prim.Native.Nat.{ℕ, _<_}
 use lib.ListN.{length}
 use Rattle.std.specs.declared.option.Option.{Option}
 use Rattle.std.specs.declared.option.Option.the-variants.{Some, None}
@@ -18,3 +18,8 @@ extended (Some q) p m = Some (record { culms = q .culms ++ (p .readings ∷ []);
 abbrev pub Room : Option Bundle → Type 0
 Room None = Unit {0}
 Room (Some b) = length (culmsOf b) < 16
+
+-- the grade of the first culm, with one culm more of grade g
+abbrev pub firstGrade : Option ℕ → ℕ → Option ℕ
+firstGrade None g = Some g
+firstGrade (Some f) g = Some f

@@ -1,11 +1,11 @@
 ghost use mathlib.Core.List.{[], _∷_};
 ghost use mathlib.Core.Path.{_≡_};
-ghost use Prim.Native.Nat.{_≤_};
+ghost use Prim.Native.Nat.{_+_, _<_, _≤_};
 ghost use lib.ListN.{length};
 ghost use Rattle.std.specs.declared.option.Option.the-variants.{Some, None};
 ghost use Rattle.ledger.specs.Ledger.{pieceOf};
-ghost use Rattle.ledger.specs.Table.{questionOf};
-ghost use Rattle.stock.specs.Gathering.{extended, Room};
+ghost use Rattle.ledger.specs.Table.{questionOf, gradeHeld};
+ghost use Rattle.stock.specs.Gathering.{extended, Room, firstGrade};
 ghost use Rattle.stock.specs.Rows.{bundleIn, partIn, asQuestion};
 use crate::row::CulmRow;
 use ledger::culm::Culm;
@@ -24,7 +24,11 @@ pub fn part(row: &CulmRow, m: u32) -> Option<Culm>
     let culm = row.culm;
     match culm.place {
         Place::Rack => None,
-        Place::Held { member } | Place::Standing { member } => if member == m { Some(culm) } else { None },
+        Place::Held { member } | Place::Standing { member } => if member == m {
+            Some(culm)
+        } else {
+            None
+        },
     }
 }
 
@@ -63,4 +67,48 @@ pub fn gather(rows: &[CulmRow], m: u32, member: &Member) -> Option<Bundle>
         }
     }
     bundle
+}
+
+// How many culms a bundle has, and the grade number of its first.
+#[derive(Clone, Copy)]
+pub struct Extent {
+    pub count: usize,
+    pub grade: Option<u32>,
+}
+
+// The extent with one culm more.
+fn widened(extent: Extent, culm: Culm) -> Extent
+    requires { ⌜ extent .count < 4096 ⌝ }
+    ensures count { λ r. ⌜ r .count ≡ extent .count + 1 ⌝ }
+    ensures grade { λ r. ⌜ r .grade ≡ firstGrade (extent .grade) (culm .grade) ⌝ }
+{
+    let count = extent.count + 1;
+    match extent.grade {
+        Some(grade) => Extent {
+            count,
+            grade: Some(grade),
+        },
+        None => Extent {
+            count,
+            grade: Some(culm.grade),
+        },
+    }
+}
+
+// The extent of the bundle of `m` among the rows.
+pub fn extent_of(rows: &[CulmRow], m: u32) -> Extent
+    requires { ⌜ length (bundleIn m (now rows)) ≤ 16 ⌝ }
+    ensures count { λ r. ⌜ r .count ≡ length (bundleIn m (now (rows .entry))) ⌝ }
+    ensures grade { λ r. ⌜ r .grade ≡ gradeHeld (bundleIn m (now (rows .entry))) ⌝ }
+{
+    let mut sum = Extent {
+        count: 0,
+        grade: None,
+    };
+    for row in rows {
+        if let Some(culm) = part(row, m) {
+            sum = widened(sum, culm);
+        }
+    }
+    sum
 }

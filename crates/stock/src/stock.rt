@@ -6,11 +6,17 @@ ghost use Rattle.ledger.specs.Ledger.{bundle};
 ghost use Rattle.stock.specs.Rows.{row-key, culmsIn, asideCount};
 use crate::row::CulmRow;
 use keyed_table::Table;
+
+mod asking;
+mod changing;
 mod primitives;
 mod reading;
 
 // The most rows that a stock uses.
 pub const MOST_CULM_ROWS: usize = 4096;
+
+// The most culms of a bundle.
+pub const MOST_BUNDLE: usize = 16;
 
 // The culms of a book, over rows that its caller lends. Between calls none is set aside, and no bundle is too large.
 #[derive(Drop)]
