@@ -4,5 +4,7 @@ pub mod figures;
 mod parts;
 pub mod strengths;
 pub mod terms;
+#[cfg(test)]
+mod tests;
 pub mod told;
 mod totals;

@@ -33,11 +33,9 @@ pub fn least_straightness(culms: &[Readings]) -> u32
     ensures some { λ r. ⌜ 10 ≤ r ⌝ }
     ensures bound { λ r. ⌜ r ≤ 100 ⌝ }
 {
-    let mut least = 100;
+    let mut least: u32 = 100;
     for culm in culms {
-        if culm.straightness.value < least {
-            least = culm.straightness.value;
-        }
+        least = least.min(culm.straightness.value);
     }
     least
 }

@@ -5,7 +5,6 @@ use lib.Seq.{take-all}
 use Rattle.std.proofs.shelf.Sums.{folded-more}
 use Rattle.capacity.specs.Capacities.{leastStraightness}
 use Rattle.capacity.proofs.totals.least_straightness.Needs as need
-use Rattle.capacity.proofs.totals.least_straightness.Needs.{then-culm-least, else-culm-least}
 
 pub loop-culm-again : need.loop-culm-again
 loop-culm-again c =
@@ -13,10 +12,7 @@ loop-culm-again c =
     folded-more (λ least x. min least (x .straightness .value)) 100 (c .args .culms .now) (c .loop-culm .culm-index) (c .culm-item .result)
     (c .loop-culm-test .taken) in
     let item = ap (λ x. x .straightness .value) (c .culm-item .is) in
-    elim (c .if-culm-least .came) [
-      | then-culm-least w ↦ (omega (arith, more, item, c .loop-culm .inv .0, w .least-is), omega (arith, w .least-is), omega (arith, w .least-is))
-      | else-culm-least w ↦ (omega (arith, more, item, c .loop-culm .inv .0, w .least-is), omega (arith, w .least-is), omega (arith, w .least-is))
-    ]
+    (omega (arith, more, item), omega arith, omega arith)
 
 pub returns : need.returns
 returns c = record {
