@@ -30,8 +30,8 @@ pub enum BookFault {
 pub impl From<MeasureFault> for BookFault as MeasureInBook {
     ghost converts = { λ e r. r ≡ Measure e };
 
-    fn from(fault: MeasureFault) -> BookFault {
-        BookFault::Measure(fault)
+    fn from(inner: MeasureFault) -> BookFault {
+        BookFault::Measure(inner)
     }
 }
 
