@@ -1,5 +1,4 @@
 pub mod Alike
-pub mod Sizes
 pub mod Figured
 pub mod Decided
 pub mod Soundness

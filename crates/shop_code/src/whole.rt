@@ -1,4 +1,4 @@
-ghost use Prim.Native.Nat.{_<_, _^_};
+ghost use Prim.Native.Nat.{_*_, _<_, _^_};
 ghost use Rattle.std.specs.Orderings.{Decides};
 ghost use Rattle.clauses.specs.Whole.{Slack, TensionWhole, CompressionWhole};
 use exact::wide::product_le;
@@ -19,6 +19,14 @@ pub fn tension_whole(r: u128, t: u128, n: u128, m: u128) -> bool
     n * r + m * t <= t * r
 }
 
+// Whether n has slack within rest / whole of c and of e.
+fn rest_bears(n: u128, whole: u128, rest: u128, c: u128, e: u128) -> bool
+    requires { ⌜ n < 2 ^ 34 ⌝ ∗ ⌜ whole < 2 ^ 82 ⌝ ∗ ⌜ rest < 2 ^ 82 ⌝ ∗ ⌜ c < 2 ^ 43 ⌝ ∗ ⌜ e < 2 ^ 46 ⌝ }
+    ensures { λ v. ⌜ Decides v (Slack (n * whole) (rest * c) (rest * e)) ⌝ }
+{
+    slack(n * whole, rest * c, rest * e)
+}
+
 // Whether compression n with bending m is within r, e and c: r and m in one unit, e, c and n in one.
 pub fn compression_whole(r: u128, e: u128, c: u128, n: u128, m: u128) -> bool
     requires { ⌜ r < 2 ^ 36 ⌝ ∗ ⌜ e < 2 ^ 46 ⌝ ∗ ⌜ c < 2 ^ 43 ⌝ ∗ ⌜ n < 2 ^ 34 ⌝ ∗ ⌜ m < 2 ^ 31 ⌝ }
@@ -32,5 +40,5 @@ pub fn compression_whole(r: u128, e: u128, c: u128, n: u128, m: u128) -> bool
     if whole < bent {
         return false;
     }
-    slack(n * whole, (whole - bent) * c, (whole - bent) * e)
+    rest_bears(n, whole, whole - bent, c, e)
 }
