@@ -14,10 +14,11 @@ use Rattle.quantities.specs.declared.fault.MeasureFault.{MeasureFault}
 use Rattle.quantities.specs.declared.readings.Readings.{Readings}
 use Rattle.design_code.specs.Loads.{recorded, grown}
 use Rattle.design_code.specs.Meaning.{Rule, Meaning}
-use Rattle.ledger.specs.Ledger.{Ledger, gradeAt, classAt, culmAt, memberAt, bundle, counts}
+use Rattle.ledger.specs.Ledger.{Ledger, culm-key, gradeAt, classAt, culmAt, memberAt, bundle, counts}
 use Rattle.ledger.specs.Orders.{Order, measured}
 use Rattle.ledger.specs.Orders.Order.{defineGrade, defineClass, addCulm, scrapCulm, openTicket, checkOut, checkIn, hold, free, judge, setMember, dropTicket, strike, load, judgeWithout, lookCulm, lookMember, lookCounts}
-use Rattle.ledger.specs.Table.{Question, questionOf, ticketQuestion, loadQuestion, withoutQuestion, told, next}
+use Rattle.ledger.specs.Table.{Question, questionOf, questionFor, reloadedAt, told, next}
+use Rattle.keyed_table.specs.Rows.{without}
 use Rattle.ledger.specs.declared.answer.Answer.{Answer}
 use Rattle.ledger.specs.declared.answer.Answer.the-variants.{Done, Refused, OneCulm, OneMember, AllCounts}
 use Rattle.ledger.specs.declared.call.Call.{Call}
@@ -49,11 +50,11 @@ StandingMeet code l =
     (m : ℕ) (r : Member) → memberAt l m ≡ Some r → r .stage ≡ Standing
     → (q : Question) × (questionOf (bundle m (l .culms)) r ≡ Some q) × MeetsEveryClause code q
 
--- what a call asks the code
+-- what a call asks the code about: the ticket's bundle; the member's, with the new duration and forces; the member's less that culm
 abbrev pub askedOf : Ledger → Order → Option Question
-askedOf l (judge m) = ticketQuestion l m
-askedOf l (load m d f) = loadQuestion l m d f
-askedOf l (judgeWithout m n) = withoutQuestion l m n
+askedOf l (judge m) = questionFor (bundle m (l .culms)) (memberAt l m)
+askedOf l (load m d f) = questionFor (bundle m (l .culms)) (reloadedAt d f (memberAt l m))
+askedOf l (judgeWithout m n) = questionFor (bundle m (without culm-key n (l .culms))) (memberAt l m)
 askedOf l (defineGrade g x) = None
 askedOf l (defineClass s x) = None
 askedOf l (addCulm n g x) = None
