@@ -9,6 +9,7 @@ use keyed_table::Table;
 
 mod asking;
 mod changing;
+pub mod counts;
 mod primitives;
 mod reading;
 
