@@ -1,7 +1,7 @@
 ghost use mathlib.Core.Path.{_≡_};
 ghost use Rattle.std.specs.shelf.Lists.{countBy};
 ghost use Rattle.ledger.specs.Ledger.{onRack, isHeld, isStanding};
-ghost use Rattle.stock.specs.Stocks.{held};
+ghost use Rattle.stock.specs.Stocks.{held, Kept};
 use crate::counting::count;
 use crate::row::CulmRowNumbered;
 use crate::stock::Stock;
@@ -23,6 +23,7 @@ pub struct PlaceCounts {
 impl<'a> Stock<'a> {
     // The culms by place.
     pub fn places(&self) -> PlaceCounts
+        requires kept { ⌜ Kept (now self) ⌝ }
         ensures rack { λ r. ⌜ r .rack ≡ countBy onRack (held (now (self .entry))) ⌝ }
         ensures held { λ r. ⌜ r .held ≡ countBy isHeld (held (now (self .entry))) ⌝ }
         ensures standing { λ r. ⌜ r .standing ≡ countBy isStanding (held (now (self .entry))) ⌝ }
