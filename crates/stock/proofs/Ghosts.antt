@@ -30,7 +30,7 @@ use Rattle.stock.proofs.Wrapped.{culmIn, AllClear, lookup-wrapped, added-wrapp
 -- the table with the rows is a stock that is kept
 pub keeps : (t : Table CulmRow) (rows : List CulmRow) (cs : List Culm) → Sound row-key t → content t ≡ rows → AllClear rows → culmsIn rows ≡ cs → Small cs → Kept (record { rows = t })
 keeps t rows cs s e c w few =
-    record { sound = s; clear = ap asideCount e ∙ none-aside rows c; few = subst Small (sym (ap culmsIn e ∙ w)) few }
+    (s, ap asideCount e ∙ none-aside rows c, subst Small (sym (ap culmsIn e ∙ w)) few)
 
 -- an insertion
 present-some : (o : Option CulmRow) → present (culmIn o) ≡ isSome o

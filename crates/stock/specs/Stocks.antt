@@ -29,10 +29,8 @@ abbrev pub Small : List Culm → Type 0
 Small cs = (m : ℕ) → length (bundle m cs) ≤ 16
 
 -- what every stock keeps: its rows are sound, between calls none is set aside, and no bundle is too large
-pub record Kept (s : Stock) : Type 0 where
-  pub sound : Sound row-key (s .rows)
-  pub clear : asideCount (content (s .rows)) ≡ 0
-  pub few : Small (held s)
+abbrev pub Kept : Stock → Type 0
+Kept s = Sound row-key (s .rows) × (asideCount (content (s .rows)) ≡ 0) × Small (held s)
 
 -- a culm that an event has met
 abbrev pub met-by : Event → Culm → Culm

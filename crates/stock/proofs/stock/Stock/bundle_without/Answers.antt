@@ -7,7 +7,7 @@ use Rattle.stock.proofs.stock.Stock.bundle_without.Needs as need
 pub ask-requires : need.ask-requires
 ask-requires c κs =
     let s = c .args .self .now in
-    record { sound = c .pre .kept .sound; can = marked-can s (c .pre .kept) (c .args .member .number) (c .args .number) (c .in-Some .at) (c .in-Some .ensures tt .place) }
+    record { sound = c .pre .kept .0; can = marked-can s (c .pre .kept) (c .args .member .number) (c .args .number) (c .in-Some .at) (c .in-Some .ensures tt .place) }
 
 pub returns-in-Some : need.returns-in-Some
 returns-in-Some c =

@@ -18,6 +18,6 @@ returns c =
       after = ap culmsIn (c .insert .ensures .change .holds) ∙ enlarged-wrapped r (t .limit) (content t);
       beyond = record { limit = c .insert .ensures .change .limit; rows = c .insert .ensures .change .past };
       kept = keeps (c .insert .last .self) _ _ (c .insert .ensures .sound) (c .insert .ensures .change .holds)
-          (clear-enlarged r (t .limit) rows refl (all-clear rows (c .pre .kept .clear))) (enlarged-wrapped r (t .limit) rows)
-          (small-enlarged (t .limit) (c .args .culm .number) (culmsIn rows) _ (c .pre .kept .few) (c .pre .small));
+          (clear-enlarged r (t .limit) rows refl (all-clear rows (c .pre .kept .1))) (enlarged-wrapped r (t .limit) rows)
+          (small-enlarged (t .limit) (c .args .culm .number) (culmsIn rows) _ (c .pre .kept .2) (c .pre .small));
     }

@@ -12,5 +12,5 @@ returns c =
       after = ap culmsIn (c .change-all .ensures .change .holds) ∙ travelled-wrapped (c .args .event) (content (c .args .self .now .rows));
       beyond = record { limit = c .change-all .ensures .change .limit; rows = c .change-all .ensures .change .past };
       kept = keeps (c .change-all .last .self) _ _ (c .change-all .ensures .sound) (c .change-all .ensures .change .holds)
-          (clear-map (travelled (c .args .event)) (λ r e. e) rows (all-clear rows (c .pre .kept .clear))) (travelled-wrapped (c .args .event) rows) (c .pre .small);
+          (clear-map (travelled (c .args .event)) (λ r e. e) rows (all-clear rows (c .pre .kept .1))) (travelled-wrapped (c .args .event) rows) (c .pre .small);
     }

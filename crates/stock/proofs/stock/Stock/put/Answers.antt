@@ -12,5 +12,5 @@ returns c =
       after = ap culmsIn (c .replace .ensures .change .holds) ∙ replaced-wrapped _ (content (c .args .self .now .rows));
       beyond = record { limit = c .replace .ensures .change .limit; rows = c .replace .ensures .change .past };
       kept = keeps (c .replace .last .self) _ _ (c .replace .ensures .sound) (c .replace .ensures .change .holds)
-          (clear-replaced _ rows refl (all-clear rows (c .pre .kept .clear))) (replaced-wrapped _ rows) (c .pre .small);
+          (clear-replaced _ rows refl (all-clear rows (c .pre .kept .1))) (replaced-wrapped _ rows) (c .pre .small);
     }

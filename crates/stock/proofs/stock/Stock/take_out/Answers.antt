@@ -12,6 +12,6 @@ returns c =
       after = ap culmsIn (c .remove .ensures .change .holds) ∙ without-wrapped (c .args .number) (content (c .args .self .now .rows));
       beyond = record { limit = c .remove .ensures .change .limit; rows = c .remove .ensures .change .past };
       kept = keeps (c .remove .last .self) _ _ (c .remove .ensures .sound) (c .remove .ensures .change .holds)
-          (clear-without (c .args .number) rows (all-clear rows (c .pre .kept .clear))) (without-wrapped (c .args .number) rows)
-          (small-without (c .args .number) (culmsIn rows) (c .pre .kept .few));
+          (clear-without (c .args .number) rows (all-clear rows (c .pre .kept .1))) (without-wrapped (c .args .number) rows)
+          (small-without (c .args .number) (culmsIn rows) (c .pre .kept .2));
     }
