@@ -1,0 +1,5 @@
+// The book: grades, classes, culms, tickets and members over two tables that a caller lends, and its fifteen calls.
+pub mod book;
+mod places;
+mod stage;
+pub mod ticket;
