@@ -13,6 +13,8 @@ use stock::stock::Stock;
 mod culms;
 mod define;
 mod new;
+mod opening;
+mod tickets;
 
 // The most member rows that a book uses, and the most tickets that are open at a time.
 pub const MOST_MEMBER_ROWS: usize = 512;

@@ -1,5 +1,6 @@
 ghost use mathlib.Core.Path.{_≡_};
 ghost use Rattle.ledger.specs.Ledger.{staged, isTicket, stands, inHand, outOfHand, isJudged};
+ghost use Rattle.ledger.specs.Table.{handed};
 use ledger::member::Member;
 use ledger::member::Stage;
 use stock::counting::Test;
@@ -48,6 +49,14 @@ pub fn restaged(member: Member, stage: Stage) -> Member
     let mut changed = member;
     changed.stage = stage;
     changed
+}
+
+// The ticket in hand or not, judged as it is.
+pub fn hand(member: Member, in_hand: bool) -> Member
+    ensures { λ r. ⌜ r ≡ handed «in_hand» member ⌝ }
+{
+    let judged = is_judged(&member);
+    restaged(member, Stage::Ticket { judged, in_hand })
 }
 
 // Does the member stand?
