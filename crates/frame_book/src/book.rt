@@ -12,6 +12,7 @@ use stock::stock::Stock;
 
 mod culms;
 mod define;
+mod members;
 mod new;
 mod opening;
 mod tickets;
