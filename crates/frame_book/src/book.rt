@@ -12,6 +12,8 @@ use stock::stock::Stock;
 
 mod culms;
 mod define;
+mod judging;
+mod looks;
 mod members;
 mod new;
 mod opening;
