@@ -36,3 +36,8 @@ gives t (Err f) = Err f
 abbrev pub trades : {X Y : Type 0} → X → Y → Result (Unit {0}) BookFault → Result X (BookFault × Y)
 trades t u (Ok _) = Ok t
 trades t u (Err f) = Err (f, u)
+
+-- the refusal alone, without what it hands back
+abbrev pub faultOnly : {X Y : Type 0} → Result X (BookFault × Y) → Result (Unit {0}) BookFault
+faultOnly (Ok _) = Ok tt
+faultOnly (Err e) = Err (e .0)

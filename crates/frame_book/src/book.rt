@@ -10,6 +10,7 @@ use quantities::class::ServiceClass;
 use quantities::grade::Grade;
 use stock::stock::Stock;
 
+mod by_number;
 mod culms;
 mod define;
 mod judging;

@@ -1,6 +1,7 @@
 ghost use mathlib.Core.Bool.{true};
 ghost use mathlib.Core.Path.{_≡_};
-ghost use Rattle.frame_book.specs.Tickets.{numberOn};
+ghost use Rattle.frame_book.specs.Tickets.{numberOn, faultOnly};
+use ledger::fault::BookFault;
 
 // A ticket in hand that is not judged. Only a ticket that is used up may be let go.
 pub struct Unjudged {
@@ -69,5 +70,30 @@ pub(crate) fn spend(t: Ticket) {
     match t {
         Ticket::Unjudged(t) => spend_unjudged(t),
         Ticket::Judged(t) => spend_judged(t),
+    }
+}
+
+// A refusal of a ticket that nobody keeps.
+pub(crate) fn let_go(r: Result<(), (BookFault, Ticket)>) -> Result<(), BookFault>
+    ensures { λ a. ⌜ a ≡ faultOnly r ⌝ }
+{
+    match r {
+        Ok(()) => Ok(()),
+        Err((fault, t)) => {
+            spend(t);
+            Err(fault)
+        }
+    }
+}
+
+pub(crate) fn let_judged_go(r: Result<(), (BookFault, Judged)>) -> Result<(), BookFault>
+    ensures { λ a. ⌜ a ≡ faultOnly r ⌝ }
+{
+    match r {
+        Ok(()) => Ok(()),
+        Err((fault, t)) => {
+            spend_judged(t);
+            Err(fault)
+        }
     }
 }
