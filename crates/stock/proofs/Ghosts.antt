@@ -22,17 +22,15 @@ use Rattle.ledger.specs.declared.culm.Culm.{Culm}
 use Rattle.ledger.proofs.Numbered.{length-without}
 use Rattle.stock.specs.Checks.{addChecks, asFault}
 use Rattle.stock.specs.Rows.{row-key, culmsIn, asideCount, travelled}
-use Rattle.stock.specs.Stocks.{Small, met-by}
+use Rattle.stock.specs.Stocks.{Small, Kept, met-by}
 use Rattle.stock.specs.declared.event.Event.{Event}
 use Rattle.stock.specs.declared.row.CulmRow.{CulmRow}
 use Rattle.stock.proofs.Wrapped.{culmIn, AllClear, lookup-wrapped, added-wrapped, without-wrapped, length-wrapped, all-clear, none-aside, clear-added}
 
-abbrev pub Keeps : Table CulmRow → Type 0
-Keeps t = Sound row-key t × ((asideCount (content t) ≡ 0) × (Small (culmsIn (content t)) × Unit {0}))
-
-pub keeps : (t : Table CulmRow) (rows : List CulmRow) (cs : List Culm) → Sound row-key t → content t ≡ rows → AllClear rows → culmsIn rows ≡ cs → Small cs → Keeps t
+-- the table with the rows is a stock that is kept
+pub keeps : (t : Table CulmRow) (rows : List CulmRow) (cs : List Culm) → Sound row-key t → content t ≡ rows → AllClear rows → culmsIn rows ≡ cs → Small cs → Kept (record { rows = t })
 keeps t rows cs s e c w few =
-    (s, (ap asideCount e ∙ none-aside rows c, (subst Small (sym (ap culmsIn e ∙ w)) few, tt)))
+    (s, ap asideCount e ∙ none-aside rows c, subst Small (sym (ap culmsIn e ∙ w)) few)
 
 -- an insertion
 present-some : (o : Option CulmRow) → present (culmIn o) ≡ isSome o

@@ -6,7 +6,7 @@ use Prim.Native.Nat.{ℕ, zero, suc, _+_, _<_, _≤_}
 use native.Mathlib.Omega.{arith}
 use lib.Dec.{ltb, eqb}
 use lib.ListN.{length}
-use Rattle.std.specs.shelf.Lists.{joined}
+use Rattle.std.specs.shelf.Lists.{joined, countBy}
 use Rattle.std.proofs.shelf.Sums.{sumBy-cons}
 use Rattle.std.proofs.shelf.Tests.{cond-true, cond-false}
 use Rattle.std.specs.declared.option.Option.{Option}
@@ -103,3 +103,10 @@ pub clear-replaced : (x : CulmRow) (rows : List CulmRow) → x .aside ≡ false 
 clear-replaced x rows e c =
     clear-map (λ r. cond (eqb (row-key r) (row-key x)) x r)
     (λ r k. by-test (eqb (row-key r) (row-key x)) (λ t. ap (λ z. z .aside) (cond-true _ x r t) ∙ e) (λ f. ap (λ z. z .aside) (cond-false _ x r f) ∙ k)) rows c
+
+pub count-wrapped : (p : Culm → Bool) (rows : List CulmRow) → countBy (λ r. p (r .culm)) rows ≡ countBy p (culmsIn rows)
+count-wrapped p [] = refl
+count-wrapped p (r ∷ rs) =
+    sumBy-cons (λ x. cond (p (x .culm)) 1 0) r rs
+    ∙ (ap (λ n. cond (p (r .culm)) 1 0 + n) (count-wrapped p rs)
+    ∙ sym (sumBy-cons (λ c. cond (p c) 1 0) (r .culm) (culmsIn rs)))

@@ -3,11 +3,11 @@ use mathlib.Core.List.{List}
 use mathlib.Core.Path.{_≡_}
 use Prim.Native.Nat.{ℕ, _≤_}
 use lib.ListN.{drop, length}
-use Rattle.keyed_table.specs.Tables.{content}
+use Rattle.keyed_table.specs.Tables.{Sound, content}
 use Rattle.ledger.specs.Ledger.{at, bundle}
 use Rattle.ledger.specs.declared.culm.Culm.{Culm}
 use Rattle.stock.specs.Events.{placeAfter}
-use Rattle.stock.specs.Rows.{culmsIn}
+use Rattle.stock.specs.Rows.{row-key, culmsIn, asideCount}
 use Rattle.stock.specs.declared.event.Event.{Event}
 use Rattle.stock.specs.declared.stock.Stock.{Stock}
 
@@ -27,6 +27,10 @@ pub record Beyond (s t : Stock) : Type 0 where
 -- no bundle is too large
 abbrev pub Small : List Culm → Type 0
 Small cs = (m : ℕ) → length (bundle m cs) ≤ 16
+
+-- what every stock keeps: its rows are sound, between calls none is set aside, and no bundle is too large
+abbrev pub Kept : Stock → Type 0
+Kept s = Sound row-key (s .rows) × (asideCount (content (s .rows)) ≡ 0) × Small (held s)
 
 -- a culm that an event has met
 abbrev pub met-by : Event → Culm → Culm

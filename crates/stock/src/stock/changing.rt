@@ -5,7 +5,7 @@ ghost use Rattle.ledger.specs.Ledger.{culm-key, at, movedBy, raised, dropped, s
 ghost use Rattle.ledger.specs.Table.{firstOf, afterwards, changedCulm};
 ghost use Rattle.ledger.specs.declared.culm.Place.the-variants.{Rack, Held};
 ghost use Rattle.stock.specs.Checks.{rackCulm, addChecks, scrapChecks, holdChecks, freeChecks};
-ghost use Rattle.stock.specs.Stocks.{held, room, Beyond};
+ghost use Rattle.stock.specs.Stocks.{held, room, Beyond, Kept};
 use crate::event::Event;
 use crate::event::free_culm;
 use crate::event::hold_culm;
@@ -27,9 +27,11 @@ impl<'a> Stock<'a> {
         strengths: Grade,
         readings: Readings,
     ) -> Result<(), BookFault>
+        requires kept { ⌜ Kept (now self) ⌝ }
         ensures said { λ r. ⌜ r ≡ firstOf (addChecks (room (now (self .entry))) number (held (now (self .entry)))) ⌝ }
         ensures after { λ _. ⌜ held (now (self .exit)) ≡ afterwards (addChecks (room (now (self .entry))) number (held (now (self .entry)))) (held (now (self .entry))) (added culm-key (rackCulm number grade strengths readings) (held (now (self .entry)))) ⌝ }
         ensures beyond { λ _. ⌜ Beyond (now (self .entry)) (now (self .exit)) ⌝ }
+        ensures kept { λ _. ⌜ Kept (now (self .exit)) ⌝ }
     {
         let place = Place::Rack;
         self.insert(Culm {
@@ -43,9 +45,11 @@ impl<'a> Stock<'a> {
 
     // Takes a culm on the rack out.
     pub fn scrap(&mut self, number: u32) -> Result<(), BookFault>
+        requires kept { ⌜ Kept (now self) ⌝ }
         ensures said { λ r. ⌜ r ≡ firstOf (scrapChecks number (held (now (self .entry)))) ⌝ }
         ensures after { λ _. ⌜ held (now (self .exit)) ≡ afterwards (scrapChecks number (held (now (self .entry)))) (held (now (self .entry))) (without culm-key number (held (now (self .entry)))) ⌝ }
         ensures beyond { λ _. ⌜ Beyond (now (self .entry)) (now (self .exit)) ⌝ }
+        ensures kept { λ _. ⌜ Kept (now (self .exit)) ⌝ }
     {
         let Some(culm) = self.get(number) else {
             return Err(BookFault::CulmUnknown);
@@ -59,9 +63,11 @@ impl<'a> Stock<'a> {
 
     // The ticket of `member` holds a culm of the rack.
     pub fn hold(&mut self, member: u32, number: u32) -> Result<(), BookFault>
+        requires kept { ⌜ Kept (now self) ⌝ }
         ensures said { λ r. ⌜ r ≡ firstOf (holdChecks member number (held (now (self .entry)))) ⌝ }
         ensures after { λ _. ⌜ held (now (self .exit)) ≡ afterwards (holdChecks member number (held (now (self .entry)))) (held (now (self .entry))) (changedCulm (at (Held member)) (lookup culm-key number (held (now (self .entry)))) (held (now (self .entry)))) ⌝ }
         ensures beyond { λ _. ⌜ Beyond (now (self .entry)) (now (self .exit)) ⌝ }
+        ensures kept { λ _. ⌜ Kept (now (self .exit)) ⌝ }
     {
         let Some(culm) = self.get(number) else {
             return Err(BookFault::CulmUnknown);
@@ -84,9 +90,11 @@ impl<'a> Stock<'a> {
 
     // A culm that the ticket of `member` holds goes to the rack.
     pub fn free(&mut self, member: u32, number: u32) -> Result<(), BookFault>
+        requires kept { ⌜ Kept (now self) ⌝ }
         ensures said { λ r. ⌜ r ≡ firstOf (freeChecks member number (held (now (self .entry)))) ⌝ }
         ensures after { λ _. ⌜ held (now (self .exit)) ≡ afterwards (freeChecks member number (held (now (self .entry)))) (held (now (self .entry))) (changedCulm (at Rack) (lookup culm-key number (held (now (self .entry)))) (held (now (self .entry)))) ⌝ }
         ensures beyond { λ _. ⌜ Beyond (now (self .entry)) (now (self .exit)) ⌝ }
+        ensures kept { λ _. ⌜ Kept (now (self .exit)) ⌝ }
     {
         let Some(culm) = self.get(number) else {
             return Err(BookFault::CulmUnknown);
@@ -100,24 +108,30 @@ impl<'a> Stock<'a> {
 
     // The culms that the ticket of `member` holds stand in it.
     pub fn set(&mut self, member: u32)
+        requires kept { ⌜ Kept (now self) ⌝ }
         ensures after { λ _. ⌜ held (now (self .exit)) ≡ map (movedBy (raised member)) (held (now (self .entry))) ⌝ }
         ensures beyond { λ _. ⌜ Beyond (now (self .entry)) (now (self .exit)) ⌝ }
+        ensures kept { λ _. ⌜ Kept (now (self .exit)) ⌝ }
     {
         self.meet_all(Event::Set { member });
     }
 
     // The culms that the ticket of `member` holds go to the rack.
     pub fn release(&mut self, member: u32)
+        requires kept { ⌜ Kept (now self) ⌝ }
         ensures after { λ _. ⌜ held (now (self .exit)) ≡ map (movedBy (dropped member)) (held (now (self .entry))) ⌝ }
         ensures beyond { λ _. ⌜ Beyond (now (self .entry)) (now (self .exit)) ⌝ }
+        ensures kept { λ _. ⌜ Kept (now (self .exit)) ⌝ }
     {
         self.meet_all(Event::Drop { member });
     }
 
     // The culms that stand in `member` go to the rack.
     pub fn strike(&mut self, member: u32)
+        requires kept { ⌜ Kept (now self) ⌝ }
         ensures after { λ _. ⌜ held (now (self .exit)) ≡ map (movedBy (struck member)) (held (now (self .entry))) ⌝ }
         ensures beyond { λ _. ⌜ Beyond (now (self .entry)) (now (self .exit)) ⌝ }
+        ensures kept { λ _. ⌜ Kept (now (self .exit)) ⌝ }
     {
         self.meet_all(Event::Strike { member });
     }

@@ -7,7 +7,7 @@ use Rattle.stock.proofs.stock.Stock.bundle_without.Needs as need
 pub ask-requires : need.ask-requires
 ask-requires c κs =
     let s = c .args .self .now in
-    record { sound = s .sound; can = marked-can s (c .args .member .number) (c .args .number) (c .in-Some .at) (c .in-Some .ensures tt .place) }
+    record { sound = c .pre .kept .0; can = marked-can s (c .pre .kept) (c .args .member .number) (c .args .number) (c .in-Some .at) (c .in-Some .ensures tt .place) }
 
 pub returns-in-Some : need.returns-in-Some
 returns-in-Some c =
@@ -16,8 +16,9 @@ returns-in-Some c =
     record {
       said =
           c .ask .ensures .answer
-          ∙ ap (λ b. questionOf b m) (marked-is s (m .number) (c .args .number) (c .in-Some .at) (c .in-Some .ensures tt .place));
-      same = c .ask .ensures .same;
+          ∙ ap (λ b. questionOf b m) (marked-is s (c .pre .kept) (m .number) (c .args .number) (c .in-Some .at) (c .in-Some .ensures tt .place));
+      same = ap (λ t. record { rows = t }) (c .ask .ensures .same);
+      kept = search needs;
     }
 
 pub returns-in-None : need.returns-in-None
@@ -25,6 +26,7 @@ returns-in-None c =
     let s = c .args .self .now in
     let m = c .args .member in
     record {
-      said = c .bundle-of .ensures ∙ ap (λ b. questionOf b m) (absent-is s (m .number) (c .args .number) (c .in-None .ensures tt .place));
+      said = c .bundle-of .ensures ∙ ap (λ b. questionOf b m) (absent-is s (c .pre .kept) (m .number) (c .args .number) (c .in-None .ensures tt .place));
       same = search needs;
+      kept = search needs;
     }

@@ -11,5 +11,9 @@ put-requires c κs =
     let s = c .args .self .now in
     let culm = c .in-Some .culm in
     let f = chosen-so (heldBy (c .args .member) culm) (at Rack culm) (c .in-Some-free-culm .moved) (c .in-Some-free-culm .ensures tt) in
-    subst (λ x. Small (replaced culm-key x (held s))) (sym (f .1))
-    (small-freed s (c .args .member) (c .args .number) culm (sym (c .in-Some .ensures tt)) (f .0))
+    record {
+      kept = c .pre .kept;
+      small =
+          subst (λ x. Small (replaced culm-key x (held s))) (sym (f .1))
+          (small-freed s (c .pre .kept) (c .args .member) (c .args .number) culm (sym (c .in-Some .ensures tt)) (f .0));
+    }

@@ -12,6 +12,10 @@ put-requires c κs =
     let s = c .args .self .now in
     let culm = c .in-Some .culm in
     let f = chosen-so (onRack culm) (at (Held (c .args .member)) culm) (c .in-Some-hold-culm .moved) (c .in-Some-hold-culm .ensures tt) in
-    subst (λ x. Small (replaced culm-key x (held s))) (sym (f .1))
-    (small-held s (c .args .member) (c .args .number) culm (sym (c .in-Some .ensures tt)) (f .0)
-    (omega (arith, c .extent-extent .ensures .count, c .if-extent-ge-MOST-BUNDLE .left)))
+    record {
+      kept = c .pre .kept;
+      small =
+          subst (λ x. Small (replaced culm-key x (held s))) (sym (f .1))
+          (small-held s (c .pre .kept) (c .args .member) (c .args .number) culm (sym (c .in-Some .ensures tt)) (f .0)
+          (omega (arith, c .extent-extent .ensures .count, c .if-extent-ge-MOST-BUNDLE .left)));
+    }

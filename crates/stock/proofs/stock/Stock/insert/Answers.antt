@@ -8,21 +8,16 @@ use Rattle.stock.proofs.Ghosts.{keeps, insertion-wrapped, enlarged-wrapped, cl
 use Rattle.stock.proofs.Wrapped.{all-clear}
 use Rattle.stock.proofs.stock.Stock.insert.Needs as need
 
-pub ghost-self : need.ghost-self
-ghost-self c =
-    let t = c .args .self .now .rows in
-    let rows = content t in
-    let r : CulmRow = record { culm = c .args .culm; aside = false } in
-    keeps (c .insert .last .self) _ _ (c .insert .ensures .sound) (c .insert .ensures .change .holds)
-    (clear-enlarged r (t .limit) rows refl (all-clear rows (c .args .self .now .clear))) (enlarged-wrapped r (t .limit) rows)
-    (small-enlarged (t .limit) (c .args .culm .number) (culmsIn rows) _ (c .args .self .now .few) (c .pre))
-
 pub returns : need.returns
 returns c =
     let t = c .args .self .now .rows in
+    let rows = content t in
     let r : CulmRow = record { culm = c .args .culm; aside = false } in
     record {
       said = c .as-fault .ensures ∙ ap asFault (c .insert .ensures .answer) ∙ insertion-wrapped r (t .limit) (content t);
       after = ap culmsIn (c .insert .ensures .change .holds) ∙ enlarged-wrapped r (t .limit) (content t);
       beyond = record { limit = c .insert .ensures .change .limit; rows = c .insert .ensures .change .past };
+      kept = keeps (c .insert .last .self) _ _ (c .insert .ensures .sound) (c .insert .ensures .change .holds)
+          (clear-enlarged r (t .limit) rows refl (all-clear rows (c .pre .kept .1))) (enlarged-wrapped r (t .limit) rows)
+          (small-enlarged (t .limit) (c .args .culm .number) (culmsIn rows) _ (c .pre .kept .2) (c .pre .small));
     }

@@ -5,14 +5,12 @@ use Rattle.stock.proofs.Ghosts.{keeps, travelled-wrapped}
 use Rattle.stock.proofs.Wrapped.{all-clear, clear-map}
 use Rattle.stock.proofs.stock.Stock.meet_all.Needs as need
 
-pub ghost-self : need.ghost-self
-ghost-self c =
-    let rows = content (c .args .self .now .rows) in
-    keeps (c .change-all .last .self) _ _ (c .change-all .ensures .sound) (c .change-all .ensures .change .holds)
-    (clear-map (travelled (c .args .event)) (λ r e. e) rows (all-clear rows (c .args .self .now .clear))) (travelled-wrapped (c .args .event) rows) (c .pre)
-
 pub returns : need.returns
-returns c = record {
-  after = ap culmsIn (c .change-all .ensures .change .holds) ∙ travelled-wrapped (c .args .event) (content (c .args .self .now .rows));
-  beyond = record { limit = c .change-all .ensures .change .limit; rows = c .change-all .ensures .change .past };
-}
+returns c =
+    let rows = content (c .args .self .now .rows) in
+    record {
+      after = ap culmsIn (c .change-all .ensures .change .holds) ∙ travelled-wrapped (c .args .event) (content (c .args .self .now .rows));
+      beyond = record { limit = c .change-all .ensures .change .limit; rows = c .change-all .ensures .change .past };
+      kept = keeps (c .change-all .last .self) _ _ (c .change-all .ensures .sound) (c .change-all .ensures .change .holds)
+          (clear-map (travelled (c .args .event)) (λ r e. e) rows (all-clear rows (c .pre .kept .1))) (travelled-wrapped (c .args .event) rows) (c .pre .small);
+    }

@@ -21,4 +21,5 @@ less : (m k : ℕ) (c : Culm) → length (partOf k c (placeAfter (c .place) (E.S
 less m k c = subst (λ p. length (partOf k c p) ≤ length (partOf k c (c .place))) (same m (c .place)) (length-struck m k c (c .place))
 
 pub meet-all-requires : need.meet-all-requires
-meet-all-requires c κs = small-all (c .args .self .now) (λ x. placeAfter (x .place) (E.Strike (c .args .member))) (less (c .args .member))
+meet-all-requires c κs =
+    record { kept = c .pre .kept; small = small-all (c .args .self .now) (c .pre .kept) (λ x. placeAfter (x .place) (E.Strike (c .args .member))) (less (c .args .member)) }

@@ -5,15 +5,13 @@ use Rattle.stock.proofs.Ghosts.{keeps, small-without}
 use Rattle.stock.proofs.Wrapped.{without-wrapped, all-clear, clear-without}
 use Rattle.stock.proofs.stock.Stock.take_out.Needs as need
 
-pub ghost-self : need.ghost-self
-ghost-self c =
-    let rows = content (c .args .self .now .rows) in
-    keeps (c .remove .last .self) _ _ (c .remove .ensures .sound) (c .remove .ensures .change .holds)
-    (clear-without (c .args .number) rows (all-clear rows (c .args .self .now .clear))) (without-wrapped (c .args .number) rows)
-    (small-without (c .args .number) (culmsIn rows) (c .args .self .now .few))
-
 pub returns : need.returns
-returns c = record {
-  after = ap culmsIn (c .remove .ensures .change .holds) ∙ without-wrapped (c .args .number) (content (c .args .self .now .rows));
-  beyond = record { limit = c .remove .ensures .change .limit; rows = c .remove .ensures .change .past };
-}
+returns c =
+    let rows = content (c .args .self .now .rows) in
+    record {
+      after = ap culmsIn (c .remove .ensures .change .holds) ∙ without-wrapped (c .args .number) (content (c .args .self .now .rows));
+      beyond = record { limit = c .remove .ensures .change .limit; rows = c .remove .ensures .change .past };
+      kept = keeps (c .remove .last .self) _ _ (c .remove .ensures .sound) (c .remove .ensures .change .holds)
+          (clear-without (c .args .number) rows (all-clear rows (c .pre .kept .1))) (without-wrapped (c .args .number) rows)
+          (small-without (c .args .number) (culmsIn rows) (c .pre .kept .2));
+    }
