@@ -1,3 +1,4 @@
 pub mod Measured
 pub mod Rows
 pub mod Traded
+pub mod Telling

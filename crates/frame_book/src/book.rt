@@ -17,6 +17,7 @@ mod judging;
 mod looks;
 mod members;
 mod new;
+mod obey;
 mod opening;
 mod tickets;
 
