@@ -11,6 +11,8 @@ use ledger::call::Call;
 use std::alloc::AllocError;
 use std::alloc::Global;
 
+pub mod day;
+
 // Plays the calls and gives their answers in order; where memory is short it plays none.
 pub fn play<C: DesignCode>(
     heap: Global,
