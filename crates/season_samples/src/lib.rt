@@ -1,0 +1,3 @@
+// A book in use, under the shop code.
+pub mod afternoon;
+pub mod blank;
