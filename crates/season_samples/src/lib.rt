@@ -1,3 +1,0 @@
-// A book in use, under the shop code.
-pub mod afternoon;
-pub mod blank;
