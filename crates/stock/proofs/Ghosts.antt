@@ -10,21 +10,25 @@ use Rattle.std.proofs.shelf.Tests.{cond-true, cond-false, cond-both}
 use Rattle.std.specs.Options.{isSome}
 use Rattle.std.specs.declared.option.Option.{Option}
 use Rattle.std.specs.declared.option.Option.the-variants.{Some, None}
+use Rattle.std.specs.declared.result.Result.{Result}
 use Rattle.std.specs.declared.result.Result.the-variants.{Ok, Err}
 use Rattle.keyed_table.specs.Rows.{lookup, added, without, replaced}
-use Rattle.keyed_table.specs.Tables.{Sound, content, insertion, enlarged}
+use Rattle.keyed_table.specs.Tables.{Sound, content, insertion, enlarged, Kept as TableKept}
 use Rattle.keyed_table.specs.declared.Table.{Table}
-use Rattle.keyed_table.specs.declared.Refusal.the-variants.{Full, NumberTaken}
+use Rattle.keyed_table.specs.declared.Refusal.{Refusal}
+use Rattle.keyed_table.specs.declared.Refusal.the-variants.{Full, NumberTaken, NoSuchRow}
 use Rattle.keyed_table.proofs.Lookups.{by-test}
 use Rattle.ledger.specs.Ledger.{culm-key, bundle, partOf}
 use Rattle.ledger.specs.Table.{firstOf, afterwards, present}
 use Rattle.ledger.specs.declared.culm.Culm.{Culm}
+use Rattle.ledger.specs.declared.fault.BookFault.{BookFault}
 use Rattle.ledger.proofs.Numbered.{length-without}
 use Rattle.stock.specs.Checks.{addChecks, asFault}
 use Rattle.stock.specs.Rows.{row-key, culmsIn, asideCount, travelled}
-use Rattle.stock.specs.Stocks.{Small, Kept, met-by}
+use Rattle.stock.specs.Stocks.{Small, Kept, met-by, OnErr}
 use Rattle.stock.specs.declared.event.Event.{Event}
 use Rattle.stock.specs.declared.row.CulmRow.{CulmRow}
+use Rattle.stock.specs.declared.stock.Stock.{Stock}
 use Rattle.stock.proofs.Wrapped.{culmIn, AllClear, lookup-wrapped, added-wrapped, without-wrapped, length-wrapped, all-clear, none-aside, clear-added}
 
 -- the table with the rows is a stock that is kept
@@ -74,3 +78,11 @@ small-without n cs a m = omega (arith, length-without culm-key (λ c. partOf m c
 pub travelled-wrapped : (e : Event) (rows : List CulmRow) → culmsIn (map (travelled e) rows) ≡ map (met-by e) (culmsIn rows)
 travelled-wrapped e [] = refl
 travelled-wrapped e (r ∷ rs) = ap (λ z. met-by e (r .culm) ∷ z) (travelled-wrapped e rs)
+
+-- a refused insertion leaves the stock as it was
+pub insertion-kept : (t u : Table CulmRow) (r : Result (Unit {0}) Refusal) (f : Result (Unit {0}) BookFault) → f ≡ asFault r → TableKept r t u
+    → OnErr f (_≡_ {A = Stock} (record { rows = u }) (record { rows = t }))
+insertion-kept t u (Ok _) f e k = subst (λ x. OnErr x (_≡_ {A = Stock} (record { rows = u }) (record { rows = t }))) (sym e) tt
+insertion-kept t u (Err NumberTaken) f e k = subst (λ x. OnErr x (_≡_ {A = Stock} (record { rows = u }) (record { rows = t }))) (sym e) (ap (λ x. record { rows = x }) k)
+insertion-kept t u (Err Full) f e k = subst (λ x. OnErr x (_≡_ {A = Stock} (record { rows = u }) (record { rows = t }))) (sym e) (ap (λ x. record { rows = x }) k)
+insertion-kept t u (Err NoSuchRow) f e k = subst (λ x. OnErr x (_≡_ {A = Stock} (record { rows = u }) (record { rows = t }))) (sym e) (ap (λ x. record { rows = x }) k)

@@ -3,6 +3,8 @@ use mathlib.Core.List.{List}
 use mathlib.Core.Path.{_≡_}
 use Prim.Native.Nat.{ℕ, _≤_}
 use lib.ListN.{drop, length}
+use Rattle.std.specs.declared.result.Result.{Result}
+use Rattle.std.specs.declared.result.Result.the-variants.{Ok, Err}
 use Rattle.keyed_table.specs.Tables.{Sound, content}
 use Rattle.ledger.specs.Ledger.{at, bundle}
 use Rattle.ledger.specs.declared.culm.Culm.{Culm}
@@ -35,3 +37,8 @@ Kept s = Sound row-key (s .rows) × (asideCount (content (s .rows)) ≡ 0) × Sm
 -- a culm that an event has met
 abbrev pub met-by : Event → Culm → Culm
 met-by e c = at (placeAfter (c .place) e) c
+
+-- what holds where a call refuses
+abbrev pub OnErr : {T E : Type 0} → Result T E → Type 0 → Type 0
+OnErr (Ok _) P = Unit {0}
+OnErr (Err _) P = P

@@ -3,7 +3,8 @@ ghost use Rattle.design_code.specs.Meaning.{Rule};
 ghost use Rattle.ledger.specs.Orders.Order.{addCulm};
 ghost use Rattle.ledger.specs.Table.{next};
 ghost use Rattle.ledger.specs.declared.call.Call.the-variants.{AddCulm, ScrapCulm};
-ghost use Rattle.frame_book.specs.Books.{ledgerOf, Past};
+ghost use Rattle.stock.specs.Stocks.{OnErr};
+ghost use Rattle.frame_book.specs.Books.{ledgerOf, Past, Unchanged};
 ghost use Rattle.frame_book.specs.Calls.{refusal, orderRefusal, afterOrder};
 use crate::book::Book;
 use crate::places::grade_number;
@@ -26,6 +27,7 @@ impl<'a> Book<'a> {
         ensures said { λ r. ⌜ ((rule : Rule) → r ≡ refusal rule (ledgerOf (now (self .entry))) (AddCulm culm grade diameter wall straightness)) ⌝ }
         ensures after { λ _. ⌜ ((rule : Rule) → ledgerOf (now (self .exit)) ≡ next rule (ledgerOf (now (self .entry))) (AddCulm culm grade diameter wall straightness)) ⌝ }
         ensures past { λ _. ⌜ Past (now (self .entry)) (now (self .exit)) ⌝ }
+        ensures refused { λ r. ⌜ OnErr r (Unchanged (now (self .entry)) (now (self .exit))) ⌝ }
     {
         let _ = CulmNumber::in_field(2, culm)?;
         let grade = grade_number(3, grade)?;
@@ -43,6 +45,7 @@ impl<'a> Book<'a> {
         ensures said { λ r. ⌜ ((rule : Rule) → r ≡ orderRefusal rule (ledgerOf (now (self .entry))) (addCulm culm (grade .value) readings)) ⌝ }
         ensures after { λ _. ⌜ ((rule : Rule) → ledgerOf (now (self .exit)) ≡ afterOrder rule (ledgerOf (now (self .entry))) (addCulm culm (grade .value) readings)) ⌝ }
         ensures past { λ _. ⌜ Past (now (self .entry)) (now (self .exit)) ⌝ }
+        ensures refused { λ r. ⌜ OnErr r (Unchanged (now (self .entry)) (now (self .exit))) ⌝ }
     {
         let defined = self.grades[(grade.value - 1) as usize];
         let Some(strengths) = defined else {
@@ -56,6 +59,7 @@ impl<'a> Book<'a> {
         ensures said { λ r. ⌜ ((rule : Rule) → r ≡ refusal rule (ledgerOf (now (self .entry))) (ScrapCulm culm)) ⌝ }
         ensures after { λ _. ⌜ ((rule : Rule) → ledgerOf (now (self .exit)) ≡ next rule (ledgerOf (now (self .entry))) (ScrapCulm culm)) ⌝ }
         ensures past { λ _. ⌜ Past (now (self .entry)) (now (self .exit)) ⌝ }
+        ensures refused { λ r. ⌜ OnErr r (Unchanged (now (self .entry)) (now (self .exit))) ⌝ }
     {
         let _ = CulmNumber::in_field(2, culm)?;
         self.stock.scrap(culm)

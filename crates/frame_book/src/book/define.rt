@@ -2,7 +2,8 @@ ghost use mathlib.Core.Path.{_≡_};
 ghost use Rattle.design_code.specs.Meaning.{Rule};
 ghost use Rattle.ledger.specs.Table.{next};
 ghost use Rattle.ledger.specs.declared.call.Call.the-variants.{DefineGrade, DefineClass};
-ghost use Rattle.frame_book.specs.Books.{ledgerOf, Past};
+ghost use Rattle.stock.specs.Stocks.{OnErr};
+ghost use Rattle.frame_book.specs.Books.{ledgerOf, Past, Unchanged};
 ghost use Rattle.frame_book.specs.Calls.{refusal};
 use crate::book::Book;
 use crate::places::class_number;
@@ -27,6 +28,7 @@ impl<'a> Book<'a> {
         ensures said { λ r. ⌜ ((rule : Rule) → r ≡ refusal rule (ledgerOf (now (self .entry))) (DefineGrade grade bending compression tension shear modulus)) ⌝ }
         ensures after { λ _. ⌜ ((rule : Rule) → ledgerOf (now (self .exit)) ≡ next rule (ledgerOf (now (self .entry))) (DefineGrade grade bending compression tension shear modulus)) ⌝ }
         ensures past { λ _. ⌜ Past (now (self .entry)) (now (self .exit)) ⌝ }
+        ensures refused { λ r. ⌜ OnErr r (Unchanged (now (self .entry)) (now (self .exit))) ⌝ }
     {
         let grade = grade_number(2, grade)?;
         let strengths = Grade::measured(3, bending, compression, tension, shear, modulus)?;
@@ -49,6 +51,7 @@ impl<'a> Book<'a> {
         ensures said { λ r. ⌜ ((rule : Rule) → r ≡ refusal rule (ledgerOf (now (self .entry))) (DefineClass class strength modulus)) ⌝ }
         ensures after { λ _. ⌜ ((rule : Rule) → ledgerOf (now (self .exit)) ≡ next rule (ledgerOf (now (self .entry))) (DefineClass class strength modulus)) ⌝ }
         ensures past { λ _. ⌜ Past (now (self .entry)) (now (self .exit)) ⌝ }
+        ensures refused { λ r. ⌜ OnErr r (Unchanged (now (self .entry)) (now (self .exit))) ⌝ }
     {
         let class = class_number(2, class)?;
         let factors = ServiceClass::measured(3, strength, modulus)?;

@@ -3,7 +3,8 @@ ghost use Rattle.ledger.specs.Ledger.{memberAt};
 ghost use Rattle.ledger.specs.Orders.Order.{judge, load, judgeWithout};
 ghost use Rattle.ledger.specs.Table.{next};
 ghost use Rattle.ledger.specs.declared.call.Call.the-variants.{Load, JudgeWithout};
-ghost use Rattle.frame_book.specs.Books.{ledgerOf, Past, HasNumber};
+ghost use Rattle.stock.specs.Stocks.{OnErr};
+ghost use Rattle.frame_book.specs.Books.{ledgerOf, Past, Unchanged, HasNumber};
 ghost use Rattle.frame_book.specs.Calls.{refusal, orderRefusal, afterOrder};
 ghost use Rattle.frame_book.specs.Tickets.{judged, trades};
 use crate::appraising::ask_any;
@@ -47,6 +48,7 @@ impl<'a> Book<'a> {
         ensures said { λ r. ⌜ r ≡ trades (judged (t .number)) t (orderRefusal (C·DesignCode .meaning (now (code .entry)) .rule) (ledgerOf (now (self .entry))) (judge (t .number))) ⌝ }
         ensures after { λ _. ⌜ ledgerOf (now (self .exit)) ≡ afterOrder (C·DesignCode .meaning (now (code .entry)) .rule) (ledgerOf (now (self .entry))) (judge (t .number)) ⌝ }
         ensures past { λ _. ⌜ Past (now (self .entry)) (now (self .exit)) ⌝ }
+        ensures refused { λ r. ⌜ OnErr r (Unchanged (now (self .entry)) (now (self .exit))) ⌝ }
     {
         let number = t.number;
         let Some(row) = self.row(number) else {
@@ -88,6 +90,7 @@ impl<'a> Book<'a> {
         ensures said { λ r. ⌜ r ≡ refusal (C·DesignCode .meaning (now (code .entry)) .rule) (ledgerOf (now (self .entry))) (Load member duration axial shear moment) ⌝ }
         ensures after { λ _. ⌜ ledgerOf (now (self .exit)) ≡ next (C·DesignCode .meaning (now (code .entry)) .rule) (ledgerOf (now (self .entry))) (Load member duration axial shear moment) ⌝ }
         ensures past { λ _. ⌜ Past (now (self .entry)) (now (self .exit)) ⌝ }
+        ensures refused { λ r. ⌜ OnErr r (Unchanged (now (self .entry)) (now (self .exit))) ⌝ }
     {
         let _ = MemberNumber::in_field(2, member)?;
         let forces = Forces::measured(4, axial, shear, moment)?;
@@ -104,6 +107,7 @@ impl<'a> Book<'a> {
         ensures said { λ r. ⌜ r ≡ orderRefusal (C·DesignCode .meaning (now (code .entry)) .rule) (ledgerOf (now (self .entry))) (load member duration forces) ⌝ }
         ensures after { λ _. ⌜ ledgerOf (now (self .exit)) ≡ afterOrder (C·DesignCode .meaning (now (code .entry)) .rule) (ledgerOf (now (self .entry))) (load member duration forces) ⌝ }
         ensures past { λ _. ⌜ Past (now (self .entry)) (now (self .exit)) ⌝ }
+        ensures refused { λ r. ⌜ OnErr r (Unchanged (now (self .entry)) (now (self .exit))) ⌝ }
     {
         let Some(row) = self.row(member) else {
             return Err(BookFault::NotStanding);
@@ -131,6 +135,7 @@ impl<'a> Book<'a> {
         ensures said { λ r. ⌜ r ≡ refusal (C·DesignCode .meaning (now (code .entry)) .rule) (ledgerOf (now (self .entry))) (JudgeWithout member culm) ⌝ }
         ensures after { λ _. ⌜ ledgerOf (now (self .exit)) ≡ ledgerOf (now (self .entry)) ⌝ }
         ensures past { λ _. ⌜ Past (now (self .entry)) (now (self .exit)) ⌝ }
+        ensures refused { λ r. ⌜ OnErr r (Unchanged (now (self .entry)) (now (self .exit))) ⌝ }
     {
         let _ = MemberNumber::in_field(2, member)?;
         let _ = CulmNumber::in_field(3, culm)?;
@@ -146,6 +151,7 @@ impl<'a> Book<'a> {
         ensures said { λ r. ⌜ r ≡ orderRefusal (C·DesignCode .meaning (now (code .entry)) .rule) (ledgerOf (now (self .entry))) (judgeWithout member culm) ⌝ }
         ensures after { λ _. ⌜ ledgerOf (now (self .exit)) ≡ ledgerOf (now (self .entry)) ⌝ }
         ensures past { λ _. ⌜ Past (now (self .entry)) (now (self .exit)) ⌝ }
+        ensures refused { λ r. ⌜ OnErr r (Unchanged (now (self .entry)) (now (self .exit))) ⌝ }
     {
         let Some(row) = self.row(member) else {
             return Err(BookFault::NotStanding);

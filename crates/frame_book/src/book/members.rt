@@ -3,7 +3,8 @@ ghost use Rattle.design_code.specs.Meaning.{Rule};
 ghost use Rattle.ledger.specs.Orders.Order.{setMember, dropTicket};
 ghost use Rattle.ledger.specs.Table.{next};
 ghost use Rattle.ledger.specs.declared.call.Call.the-variants.{Strike};
-ghost use Rattle.frame_book.specs.Books.{ledgerOf, Past};
+ghost use Rattle.stock.specs.Stocks.{OnErr};
+ghost use Rattle.frame_book.specs.Books.{ledgerOf, Past, Unchanged};
 ghost use Rattle.frame_book.specs.Calls.{refusal, orderRefusal, afterOrder};
 ghost use Rattle.frame_book.specs.Tickets.{numberOn, trades};
 use crate::book::Book;
@@ -27,6 +28,7 @@ impl<'a> Book<'a> {
         ensures said { λ r. ⌜ ((rule : Rule) → r ≡ trades tt t (orderRefusal rule (ledgerOf (now (self .entry))) (setMember (t .number)))) ⌝ }
         ensures after { λ _. ⌜ ((rule : Rule) → ledgerOf (now (self .exit)) ≡ afterOrder rule (ledgerOf (now (self .entry))) (setMember (t .number))) ⌝ }
         ensures past { λ _. ⌜ Past (now (self .entry)) (now (self .exit)) ⌝ }
+        ensures refused { λ r. ⌜ OnErr r (Unchanged (now (self .entry)) (now (self .exit))) ⌝ }
     {
         let number = t.number;
         let Some(row) = self.members.get(number) else {
@@ -49,6 +51,7 @@ impl<'a> Book<'a> {
         ensures said { λ r. ⌜ ((rule : Rule) → r ≡ trades tt t (orderRefusal rule (ledgerOf (now (self .entry))) (dropTicket (numberOn t)))) ⌝ }
         ensures after { λ _. ⌜ ((rule : Rule) → ledgerOf (now (self .exit)) ≡ afterOrder rule (ledgerOf (now (self .entry))) (dropTicket (numberOn t))) ⌝ }
         ensures past { λ _. ⌜ Past (now (self .entry)) (now (self .exit)) ⌝ }
+        ensures refused { λ r. ⌜ OnErr r (Unchanged (now (self .entry)) (now (self .exit))) ⌝ }
     {
         let number = t.number();
         let Some(row) = self.members.get(number) else {
@@ -68,6 +71,7 @@ impl<'a> Book<'a> {
         ensures said { λ r. ⌜ ((rule : Rule) → r ≡ refusal rule (ledgerOf (now (self .entry))) (Strike member)) ⌝ }
         ensures after { λ _. ⌜ ((rule : Rule) → ledgerOf (now (self .exit)) ≡ next rule (ledgerOf (now (self .entry))) (Strike member)) ⌝ }
         ensures past { λ _. ⌜ Past (now (self .entry)) (now (self .exit)) ⌝ }
+        ensures refused { λ r. ⌜ OnErr r (Unchanged (now (self .entry)) (now (self .exit))) ⌝ }
     {
         let _ = MemberNumber::in_field(2, member)?;
         let Some(row) = self.members.get(member) else {

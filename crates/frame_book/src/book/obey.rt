@@ -3,7 +3,7 @@ ghost use Rattle.design_code.specs.Meaning.{Rule};
 ghost use Rattle.ledger.specs.Table.{answered, told, next};
 ghost use Rattle.ledger.specs.declared.answer.Answer.the-variants.{Done};
 ghost use Rattle.ledger.specs.declared.call.Call.the-variants.{LookCulm, LookMember};
-ghost use Rattle.frame_book.specs.Books.{ledgerOf, Past};
+ghost use Rattle.frame_book.specs.Books.{ledgerOf, Past, Unchanged, OnRefusal};
 use crate::book::Book;
 use design_code::code::DesignCode;
 use ledger::answer::Answer;
@@ -44,6 +44,7 @@ impl<'a> Book<'a> {
         ensures said { λ r. ⌜ r ≡ told (C·DesignCode .meaning (now (code .entry)) .rule) (ledgerOf (now (self .entry))) call ⌝ }
         ensures after { λ _. ⌜ ledgerOf (now (self .exit)) ≡ next (C·DesignCode .meaning (now (code .entry)) .rule) (ledgerOf (now (self .entry))) call ⌝ }
         ensures past { λ _. ⌜ Past (now (self .entry)) (now (self .exit)) ⌝ }
+        ensures refused { λ r. ⌜ OnRefusal r (Unchanged (now (self .entry)) (now (self .exit))) ⌝ }
     {
         match call {
             Call::DefineGrade {

@@ -3,7 +3,8 @@ ghost use Rattle.design_code.specs.Meaning.{Rule};
 ghost use Rattle.ledger.specs.Orders.Order.{openTicket};
 ghost use Rattle.ledger.specs.Table.{next};
 ghost use Rattle.ledger.specs.declared.call.Call.the-variants.{Open};
-ghost use Rattle.frame_book.specs.Books.{ledgerOf, Past};
+ghost use Rattle.stock.specs.Stocks.{OnErr};
+ghost use Rattle.frame_book.specs.Books.{ledgerOf, Past, Unchanged};
 ghost use Rattle.frame_book.specs.Calls.{refusal, orderRefusal, afterOrder};
 ghost use Rattle.frame_book.specs.Tickets.{unjudged, gives};
 use crate::book::Book;
@@ -39,6 +40,7 @@ impl<'a> Book<'a> {
         ensures said { λ r. ⌜ ((rule : Rule) → r ≡ gives (unjudged member) (refusal rule (ledgerOf (now (self .entry))) (Open member length class duration axial shear moment))) ⌝ }
         ensures after { λ _. ⌜ ((rule : Rule) → ledgerOf (now (self .exit)) ≡ next rule (ledgerOf (now (self .entry))) (Open member length class duration axial shear moment)) ⌝ }
         ensures past { λ _. ⌜ Past (now (self .entry)) (now (self .exit)) ⌝ }
+        ensures refused { λ r. ⌜ OnErr r (Unchanged (now (self .entry)) (now (self .exit))) ⌝ }
     {
         match self.enter_ticket(member, length, class, duration, axial, shear, moment) {
             Ok(()) => Ok(Unjudged {
@@ -63,6 +65,7 @@ impl<'a> Book<'a> {
         ensures said { λ r. ⌜ ((rule : Rule) → r ≡ refusal rule (ledgerOf (now (self .entry))) (Open member length class duration axial shear moment)) ⌝ }
         ensures after { λ _. ⌜ ((rule : Rule) → ledgerOf (now (self .exit)) ≡ next rule (ledgerOf (now (self .entry))) (Open member length class duration axial shear moment)) ⌝ }
         ensures past { λ _. ⌜ Past (now (self .entry)) (now (self .exit)) ⌝ }
+        ensures refused { λ r. ⌜ OnErr r (Unchanged (now (self .entry)) (now (self .exit))) ⌝ }
     {
         let _ = MemberNumber::in_field(2, member)?;
         let length = EffectiveLength::in_field(3, length)?;
@@ -83,6 +86,7 @@ impl<'a> Book<'a> {
         ensures said { λ r. ⌜ ((rule : Rule) → r ≡ orderRefusal rule (ledgerOf (now (self .entry))) (openTicket member length (class .value) duration forces)) ⌝ }
         ensures after { λ _. ⌜ ((rule : Rule) → ledgerOf (now (self .exit)) ≡ afterOrder rule (ledgerOf (now (self .entry))) (openTicket member length (class .value) duration forces)) ⌝ }
         ensures past { λ _. ⌜ Past (now (self .entry)) (now (self .exit)) ⌝ }
+        ensures refused { λ r. ⌜ OnErr r (Unchanged (now (self .entry)) (now (self .exit))) ⌝ }
     {
         let defined = self.classes[(class.value - 1) as usize];
         let Some(factors) = defined else {

@@ -4,7 +4,8 @@ ghost use Rattle.ledger.specs.Ledger.{memberAt};
 ghost use Rattle.ledger.specs.Orders.Order.{checkIn, hold, free};
 ghost use Rattle.ledger.specs.Table.{next, nextOf};
 ghost use Rattle.ledger.specs.declared.call.Call.the-variants.{CheckOut};
-ghost use Rattle.frame_book.specs.Books.{ledgerOf, Past};
+ghost use Rattle.stock.specs.Stocks.{OnErr};
+ghost use Rattle.frame_book.specs.Books.{ledgerOf, Past, Unchanged};
 ghost use Rattle.frame_book.specs.Calls.{refusal, refusalOf, orderRefusal, afterOrder, withCulm};
 ghost use Rattle.frame_book.specs.Tickets.{numberOn, ticketOf, gives, trades};
 use crate::book::Book;
@@ -28,6 +29,7 @@ impl<'a> Book<'a> {
         ensures said { λ r. ⌜ ((rule : Rule) → r ≡ gives (ticketOf member (memberAt (ledgerOf (now (self .entry))) member)) (refusal rule (ledgerOf (now (self .entry))) (CheckOut member))) ⌝ }
         ensures after { λ _. ⌜ ((rule : Rule) → ledgerOf (now (self .exit)) ≡ next rule (ledgerOf (now (self .entry))) (CheckOut member)) ⌝ }
         ensures past { λ _. ⌜ Past (now (self .entry)) (now (self .exit)) ⌝ }
+        ensures refused { λ r. ⌜ OnErr r (Unchanged (now (self .entry)) (now (self .exit))) ⌝ }
     {
         let _ = MemberNumber::in_field(2, member)?;
         let Some(row) = self.members.get(member) else {
@@ -55,6 +57,7 @@ impl<'a> Book<'a> {
         ensures said { λ r. ⌜ ((rule : Rule) → r ≡ trades tt t (orderRefusal rule (ledgerOf (now (self .entry))) (checkIn (numberOn t)))) ⌝ }
         ensures after { λ _. ⌜ ((rule : Rule) → ledgerOf (now (self .exit)) ≡ afterOrder rule (ledgerOf (now (self .entry))) (checkIn (numberOn t))) ⌝ }
         ensures past { λ _. ⌜ Past (now (self .entry)) (now (self .exit)) ⌝ }
+        ensures refused { λ r. ⌜ OnErr r (Unchanged (now (self .entry)) (now (self .exit))) ⌝ }
     {
         let Some(row) = self.members.get(t.number()) else {
             return Err((BookFault::NoTicket, t));
@@ -72,6 +75,7 @@ impl<'a> Book<'a> {
         ensures said { λ r. ⌜ ((rule : Rule) → r ≡ refusalOf rule (ledgerOf (now (self .entry))) (withCulm culm (hold (now (t .entry) .number) culm))) ⌝ }
         ensures after { λ _. ⌜ ((rule : Rule) → ledgerOf (now (self .exit)) ≡ nextOf rule (ledgerOf (now (self .entry))) (withCulm culm (hold (now (t .entry) .number) culm))) ⌝ }
         ensures past { λ _. ⌜ Past (now (self .entry)) (now (self .exit)) ⌝ }
+        ensures refused { λ r. ⌜ OnErr r (Unchanged (now (self .entry)) (now (self .exit))) ⌝ }
     {
         let _ = CulmNumber::in_field(3, culm)?;
         let Some(row) = self.members.get(t.number) else {
@@ -91,6 +95,7 @@ impl<'a> Book<'a> {
         ensures said { λ r. ⌜ ((rule : Rule) → r ≡ refusalOf rule (ledgerOf (now (self .entry))) (withCulm culm (free (now (t .entry) .number) culm))) ⌝ }
         ensures after { λ _. ⌜ ((rule : Rule) → ledgerOf (now (self .exit)) ≡ nextOf rule (ledgerOf (now (self .entry))) (withCulm culm (free (now (t .entry) .number) culm))) ⌝ }
         ensures past { λ _. ⌜ Past (now (self .entry)) (now (self .exit)) ⌝ }
+        ensures refused { λ r. ⌜ OnErr r (Unchanged (now (self .entry)) (now (self .exit))) ⌝ }
     {
         let _ = CulmNumber::in_field(3, culm)?;
         let Some(row) = self.members.get(t.number) else {

@@ -5,7 +5,7 @@ ghost use Rattle.ledger.specs.Ledger.{culm-key, at, movedBy, raised, dropped, s
 ghost use Rattle.ledger.specs.Table.{firstOf, afterwards, changedCulm};
 ghost use Rattle.ledger.specs.declared.culm.Place.the-variants.{Rack, Held};
 ghost use Rattle.stock.specs.Checks.{rackCulm, addChecks, scrapChecks, holdChecks, freeChecks};
-ghost use Rattle.stock.specs.Stocks.{held, room, Beyond, Kept};
+ghost use Rattle.stock.specs.Stocks.{held, room, Beyond, Kept, OnErr};
 use crate::event::Event;
 use crate::event::free_culm;
 use crate::event::hold_culm;
@@ -31,6 +31,7 @@ impl<'a> Stock<'a> {
         ensures said { λ r. ⌜ r ≡ firstOf (addChecks (room (now (self .entry))) number (held (now (self .entry)))) ⌝ }
         ensures after { λ _. ⌜ held (now (self .exit)) ≡ afterwards (addChecks (room (now (self .entry))) number (held (now (self .entry)))) (held (now (self .entry))) (added culm-key (rackCulm number grade strengths readings) (held (now (self .entry)))) ⌝ }
         ensures beyond { λ _. ⌜ Beyond (now (self .entry)) (now (self .exit)) ⌝ }
+        ensures refused { λ r. ⌜ OnErr r (now (self .exit) ≡ now (self .entry)) ⌝ }
         ensures kept { λ _. ⌜ Kept (now (self .exit)) ⌝ }
     {
         let place = Place::Rack;
@@ -49,6 +50,7 @@ impl<'a> Stock<'a> {
         ensures said { λ r. ⌜ r ≡ firstOf (scrapChecks number (held (now (self .entry)))) ⌝ }
         ensures after { λ _. ⌜ held (now (self .exit)) ≡ afterwards (scrapChecks number (held (now (self .entry)))) (held (now (self .entry))) (without culm-key number (held (now (self .entry)))) ⌝ }
         ensures beyond { λ _. ⌜ Beyond (now (self .entry)) (now (self .exit)) ⌝ }
+        ensures refused { λ r. ⌜ OnErr r (now (self .exit) ≡ now (self .entry)) ⌝ }
         ensures kept { λ _. ⌜ Kept (now (self .exit)) ⌝ }
     {
         let Some(culm) = self.get(number) else {
@@ -67,6 +69,7 @@ impl<'a> Stock<'a> {
         ensures said { λ r. ⌜ r ≡ firstOf (holdChecks member number (held (now (self .entry)))) ⌝ }
         ensures after { λ _. ⌜ held (now (self .exit)) ≡ afterwards (holdChecks member number (held (now (self .entry)))) (held (now (self .entry))) (changedCulm (at (Held member)) (lookup culm-key number (held (now (self .entry)))) (held (now (self .entry)))) ⌝ }
         ensures beyond { λ _. ⌜ Beyond (now (self .entry)) (now (self .exit)) ⌝ }
+        ensures refused { λ r. ⌜ OnErr r (now (self .exit) ≡ now (self .entry)) ⌝ }
         ensures kept { λ _. ⌜ Kept (now (self .exit)) ⌝ }
     {
         let Some(culm) = self.get(number) else {
@@ -94,6 +97,7 @@ impl<'a> Stock<'a> {
         ensures said { λ r. ⌜ r ≡ firstOf (freeChecks member number (held (now (self .entry)))) ⌝ }
         ensures after { λ _. ⌜ held (now (self .exit)) ≡ afterwards (freeChecks member number (held (now (self .entry)))) (held (now (self .entry))) (changedCulm (at Rack) (lookup culm-key number (held (now (self .entry)))) (held (now (self .entry)))) ⌝ }
         ensures beyond { λ _. ⌜ Beyond (now (self .entry)) (now (self .exit)) ⌝ }
+        ensures refused { λ r. ⌜ OnErr r (now (self .exit) ≡ now (self .entry)) ⌝ }
         ensures kept { λ _. ⌜ Kept (now (self .exit)) ⌝ }
     {
         let Some(culm) = self.get(number) else {

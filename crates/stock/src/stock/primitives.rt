@@ -8,7 +8,7 @@ ghost use Rattle.ledger.specs.Table.{firstOf, afterwards};
 ghost use Rattle.ledger.specs.declared.culm.Culm.{Culm};
 ghost use Rattle.stock.specs.Checks.{addChecks, asFault};
 ghost use Rattle.stock.specs.Events.{placeAfter};
-ghost use Rattle.stock.specs.Stocks.{held, room, Beyond, Kept, Small, met-by};
+ghost use Rattle.stock.specs.Stocks.{held, room, Beyond, Kept, OnErr, Small, met-by};
 use crate::event::Event;
 use crate::row::CulmRow;
 use crate::row::CulmRowNumbered;
@@ -39,6 +39,7 @@ impl<'a> Stock<'a> {
         ensures said { λ r. ⌜ r ≡ firstOf (addChecks (room (now (self .entry))) (culm .number) (held (now (self .entry)))) ⌝ }
         ensures after { λ _. ⌜ held (now (self .exit)) ≡ afterwards (addChecks (room (now (self .entry))) (culm .number) (held (now (self .entry)))) (held (now (self .entry))) (added culm-key culm (held (now (self .entry)))) ⌝ }
         ensures beyond { λ _. ⌜ Beyond (now (self .entry)) (now (self .exit)) ⌝ }
+        ensures refused { λ r. ⌜ OnErr r (now (self .exit) ≡ now (self .entry)) ⌝ }
         ensures kept { λ _. ⌜ Kept (now (self .exit)) ⌝ }
     {
         as_fault(self.rows.insert(CulmRow { culm, aside: false }))

@@ -18,4 +18,5 @@ returns c =
       said = λ rule. c .add-measured .ensures .said rule ∙ ap (refusalOf rule l) order;
       after = λ rule. c .add-measured .ensures .after rule ∙ ap (nextOf rule l) order;
       past = c .add-measured .ensures .past;
+      refused = c .add-measured .ensures .refused;
     }

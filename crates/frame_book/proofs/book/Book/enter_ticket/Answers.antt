@@ -21,4 +21,5 @@ returns c =
       said = λ rule. c .open-measured .ensures .said rule ∙ ap (refusalOf rule l) order;
       after = λ rule. c .open-measured .ensures .after rule ∙ ap (nextOf rule l) order;
       past = c .open-measured .ensures .past;
+      refused = c .open-measured .ensures .refused;
     }

@@ -21,6 +21,7 @@ returns-in-Ok c =
           c .enter-ticket .ensures .after rule
           ∙ ap (λ (n : ℤ). next rule l (Open (a .member) (a .length) (a .class) (a .duration) n (a .shear) (a .moment))) axial;
       past = c .enter-ticket .ensures .past;
+      refused = tt;
     }
 
 pub returns-in-Err : need.returns-in-Err
@@ -36,4 +37,5 @@ returns-in-Err c =
           c .enter-ticket .ensures .after rule
           ∙ ap (λ (n : ℤ). next rule l (Open (a .member) (a .length) (a .class) (a .duration) n (a .shear) (a .moment))) axial;
       past = c .enter-ticket .ensures .past;
+      refused = c .in-Err .ensures tt .refused;
     }

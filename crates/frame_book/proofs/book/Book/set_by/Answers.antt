@@ -7,7 +7,7 @@ use Rattle.ledger.specs.Table.{nextOf}
 use Rattle.frame_book.specs.Books.{ledgerOf}
 use Rattle.frame_book.specs.Calls.{refusalOf, orderRefusal}
 use Rattle.frame_book.proofs.Measured.{through}
-use Rattle.frame_book.proofs.Traded.{let-go}
+use Rattle.frame_book.proofs.Traded.{let-go, on-let-go}
 use Rattle.frame_book.proofs.book.Book.set_by.Needs as need
 
 pub returns : need.returns
@@ -21,4 +21,5 @@ returns c =
           ∙ ap (refusalOf rule l) order;
       after = λ rule. c .set .ensures .after rule ∙ ap (nextOf rule l) order;
       past = c .set .ensures .past;
+      refused = on-let-go _ (c .set .result) (c .let-judged-go .result) (c .let-judged-go .ensures) (c .set .ensures .refused);
     }
