@@ -1,4 +1,7 @@
 // Appraises one bundle of culms and prints each step, from the readings to the verdict.
+
+#![tactic(auto)]
+
 mod report;
 
 use quantities::basis::DesignBasis;

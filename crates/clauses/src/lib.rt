@@ -1,4 +1,7 @@
 // The four clauses as exact relations between capacities and load, and what they all keep.
+
+#![tactic(auto)]
+
 ghost use Rattle.clauses.specs.Clauses.{Bending, Shear, Tension, Compression};
 ghost use Rattle.clauses.specs.Laws.{ClauseLaws};
 

@@ -1,4 +1,7 @@
 // Design codes on worked examples. Only tests.
+
+#![tactic(auto)]
+
 #[cfg(test)]
 mod tests {
     use design_code::appraisal::appraise;

@@ -1,5 +1,8 @@
 //! A table of numbered rows over a slice that its caller lends. The rows in use stand at the front, in strictly rising order of number;
 //! the free ones stand behind them, up to the limit; those past the limit are never touched.
+
+#![tactic(auto)]
+
 ghost use Rattle.std.specs.Prelude.{◌≡◌, ℕ};
 
 pub mod change;

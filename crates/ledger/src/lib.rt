@@ -1,4 +1,7 @@
 // Calls by plain numbers, answers and faults, and the records that a ledger speaks of; the ledger itself is in specs/.
+
+#![tactic(auto)]
+
 pub mod answer;
 pub mod call;
 pub mod culm;

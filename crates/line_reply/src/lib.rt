@@ -1,3 +1,6 @@
 // The answer to a line, and its bytes.
+
+#![tactic(auto)]
+
 pub mod decimal;
 pub mod reply;

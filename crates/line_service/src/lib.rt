@@ -1,4 +1,7 @@
 //! Lines out of bytes that come in chunks, each answered by a responder.
+
+#![tactic(auto)]
+
 mod front;
 pub mod responder;
 pub mod service;

@@ -1,4 +1,7 @@
 // Measures made from raw numbers that nobody has checked. What a type promises is in its ghost fields.
+
+#![tactic(auto)]
+
 pub mod basis;
 pub mod bundle;
 pub mod class;

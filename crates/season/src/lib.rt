@@ -1,4 +1,7 @@
 // Whole runs of calls on a book.
+
+#![tactic(auto)]
+
 ghost use Rattle.std.specs.Prelude.{◌≡◌, MatchResult};
 ghost use Rattle.ledger.specs.Runs.{Whole};
 ghost use Rattle.frame_book.specs.Books.{ledger_of, Past};

@@ -1,4 +1,7 @@
 // An afternoon of two crews on one book. Only tests.
+
+#![tactic(auto)]
+
 #[cfg(test)]
 mod tests {
     use frame_book::book::Book;

@@ -2,6 +2,9 @@
 //!
 //! No contract can say what a program reads or writes. So `serve` itself has none: what a read is answered with is said by `take_in`,
 //! and that nothing is kept of what was written by `write_out`.
+
+#![tactic(auto)]
+
 ghost use Rattle.std.specs.Prelude.{◌≡◌, ◌+◌, ◌<◌, ◌≤◌, [], ◌++◌, length, IfOk, vec_len, vec_capacity, OnErr, OnOk};
 ghost use Rattle.line_service.specs.Front.{bytes_of};
 ghost use Rattle.line_service.specs.Manner.{run, answers};

@@ -1,4 +1,7 @@
 // The shop's design code: bending, shear, tension and compression, each a code of its own, and the four joined.
+
+#![tactic(auto)]
+
 pub mod bending;
 pub mod compression;
 pub mod figures;

@@ -1,4 +1,7 @@
 // The stock of culms over the rows that a caller lends: rows with a mark, moves of culms, gathering and counting.
+
+#![tactic(auto)]
+
 pub mod aside;
 pub mod counting;
 pub mod event;
