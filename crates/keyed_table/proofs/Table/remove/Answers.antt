@@ -20,7 +20,7 @@ pub returns : goal.returns
 returns g c =
     let key = g.R.Numbered.key in
     let found = c.in-Some.ensures.place in
-    let all = removes key c.args.self.now _ c.args.number c.in-Some.at c.index-rows-at.result c.requires.sound found c.shift-out.ensures.rows refl refl refl in
+    let all = removes key c.args.self.now _ c.args.number c.in-Some.at c.index-rows-at.result c.requires.sound found c.shift_out.ensures.rows refl refl refl in
     record {
       answer = sym (ap (λ o. ok_or o NoSuchRow) (lookup_read key _ _ _ _ _ c.requires.sound.2 found c.rows.ensures.rows c.index-rows-at.is));
       change = all.0;
