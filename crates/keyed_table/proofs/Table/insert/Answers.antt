@@ -6,8 +6,8 @@ use Rattle.keyed_table.proofs.ByNumber.{at_own, lacks_own}
 use Rattle.keyed_table.proofs.Frames.{length_content, inserts, unchanged, taken, full, accepted}
 use Rattle.keyed_table.proofs.Table.insert.Goals as goal
 
-pub shift-in-requires : goal.shift-in-requires
-shift-in-requires g c =
+pub shift_in-requires : goal.shift_in-requires
+shift_in-requires g c =
     let key = g.R.Numbered.key in
     let t = c.args.self.now in
     let length-used = length_content key t c.requires.sound in

@@ -5,10 +5,10 @@ use Rattle.keyed_table.proofs.ByNumber.{lookup_read, lookup_lacks, without_lacks
 use Rattle.keyed_table.proofs.Frames.{removes, unchanged}
 use Rattle.keyed_table.proofs.Table.remove.Goals as goal
 
-pub returns-in-default : goal.returns-in-default
-returns-in-default g c =
+pub returns-in_default : goal.returns-in_default
+returns-in_default g c =
     let key = g.R.Numbered.key in
-    let lacks = c.in-default.ensures.place in
+    let lacks = c.in_default.ensures.place in
     record {
       answer = sym (ap (λ o. ok_or o NoSuchRow) (lookup_lacks key _ _ lacks));
       change = unchanged key c.args.self.now _ c.requires.sound (sym (without_lacks key _ _ lacks));
