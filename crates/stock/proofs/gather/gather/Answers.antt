@@ -23,11 +23,11 @@ loop-row-preserved c =
     subst (λ ps. as_question c.match-part.bundle member ≡ question_of ps member) e
     (elim c.match-part.branch [
       | in-Some w ↦
-          ap (λ b. as_question b member) w.bundle_is
+          ap (λ b. as_question b member) w.bundle-is
           ∙ one_more c.loop-row.bundle w.extend.result (bundle_in m (take i rows)) (part_in m row) (piece_of w.in-Some.culm) member c.loop-row.invariant
           w.extend.ensures w.in-Some.ensures
       | in_default w ↦
-          ap (λ b. as_question b member) w.bundle_is
+          ap (λ b. as_question b member) w.bundle-is
           ∙ none_more c.loop-row.bundle (bundle_in m (take i rows)) (part_in m row) member c.loop-row.invariant w.in_default.ensures
     ])
 

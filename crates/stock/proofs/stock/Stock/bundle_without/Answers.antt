@@ -25,7 +25,7 @@ returns-in-None c =
     let s = c.args.self.now in
     let m = c.args.member in
     record {
-      said = c.bundle-of.ensures ∙ ap (λ b. question_of b m) (absent_is s c.requires.kept m.number c.args.number c.in-None.ensures.place);
+      said = c.bundle_of.ensures ∙ ap (λ b. question_of b m) (absent_is s c.requires.kept m.number c.args.number c.in-None.ensures.place);
       same = search rules;
       kept = search rules;
     }

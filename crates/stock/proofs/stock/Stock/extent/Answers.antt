@@ -4,10 +4,10 @@ use Rattle.stock.specs.Rows.{bundle_in}
 use Rattle.stock.proofs.Moving.{bundle_is, few_in}
 use Rattle.stock.proofs.stock.Stock.extent.Goals as goal
 
-pub extent-of-requires : goal.extent-of-requires
-extent-of-requires c = few_in c.args.self.now c.requires.kept c.args.member _ c.rows.ensures.rows
+pub extent_of-requires : goal.extent_of-requires
+extent_of-requires c = few_in c.args.self.now c.requires.kept c.args.member _ c.rows.ensures.rows
 
 pub returns : goal.returns
 returns c =
     let e = ap (bundle_in c.args.member) c.rows.ensures.rows ∙ bundle_is c.args.self.now c.requires.kept c.args.member in
-    record { count = c.extent-of.ensures.count ∙ ap length e; grade = c.extent-of.ensures.grade ∙ ap grade_held e }
+    record { count = c.extent_of.ensures.count ∙ ap length e; grade = c.extent_of.ensures.grade ∙ ap grade_held e }

@@ -10,7 +10,7 @@ pub put-requires : goal.put-requires
 put-requires c =
     let s = c.args.self.now in
     let culm = c.in-Some.culm in
-    let f = chosen_so (held_by c.args.member culm) (at Rack culm) c.in-Some-free-culm.moved c.in-Some-free-culm.ensures in
+    let f = chosen_so (held_by c.args.member culm) (at Rack culm) c.in-Some-free_culm.moved c.in-Some-free_culm.ensures in
     record {
       kept = c.requires.kept;
       small =

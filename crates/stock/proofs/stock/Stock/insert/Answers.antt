@@ -13,10 +13,10 @@ returns c =
     let rows = content t in
     let r : CulmRow = record { culm = c.args.culm; aside = false } in
     record {
-      said = c.as-fault.ensures ∙ ap as_fault c.insert.ensures.answer ∙ insertion_wrapped r t.limit (content t);
+      said = c.as_fault.ensures ∙ ap as_fault c.insert.ensures.answer ∙ insertion_wrapped r t.limit (content t);
       after = ap culms_in c.insert.ensures.change.holds ∙ enlarged_wrapped r t.limit (content t);
       beyond = record { limit = c.insert.ensures.change.limit; rows = c.insert.ensures.change.past };
-      refused = insertion_kept t c.insert.new.self c.insert.result c.as-fault.result c.as-fault.ensures c.insert.ensures.refusal;
+      refused = insertion_kept t c.insert.new.self c.insert.result c.as_fault.result c.as_fault.ensures c.insert.ensures.refusal;
       kept = keeps c.insert.new.self _ _ c.insert.ensures.sound c.insert.ensures.change.holds
           (clear_enlarged r t.limit rows refl (all_clear rows c.requires.kept.1)) (enlarged_wrapped r t.limit rows)
           (small_enlarged t.limit c.args.culm.number (culms_in rows) _ c.requires.kept.2 c.requires.small);

@@ -17,6 +17,6 @@ same m (Standing k) = refl
 less : (m k : ℕ) (c : Culm) → length (part_of k c (place_after c.place (E.Set m))) ≤ length (part_of k c c.place)
 less m k c = subst (λ p. length (part_of k c p) ≤ length (part_of k c c.place)) (same m c.place) (omega (arith, ap length (part_raised m k c c.place)))
 
-pub meet-all-requires : goal.meet-all-requires
-meet-all-requires c =
+pub meet_all-requires : goal.meet_all-requires
+meet_all-requires c =
     record { kept = c.requires.kept; small = small_all c.args.self.now c.requires.kept (λ x. place_after x.place (E.Set c.args.member)) (less c.args.member) }
