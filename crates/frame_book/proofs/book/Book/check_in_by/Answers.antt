@@ -13,12 +13,12 @@ pub returns : goal.returns
 returns c =
     let l = ledger_of c.args.self.now in
     let m = c.args.member in
-    let order = sym (through c.in-ok-in-field.field-0 (within 1 9999 m (OutOfRange 2)) (λ _. Ok (check_in m)) c.in-ok-in-field.ensures) in
+    let order = sym (through c.in_ok-in_field.field-0 (within 1 9999 m (OutOfRange 2)) (λ _. Ok (check_in m)) c.in_ok-in_field.ensures) in
     record {
       said = λ rule.
-          let_go tt _ (order_refusal rule l (check_in m)) c.check-in.result c.let-go.result c.let-go.ensures (c.check-in.ensures.said rule)
+          let_go tt _ (order_refusal rule l (check_in m)) c.check_in.result c.let_go.result c.let_go.ensures (c.check_in.ensures.said rule)
           ∙ ap (refusal_of rule l) order;
-      after = λ rule. c.check-in.ensures.after rule ∙ ap (next_of rule l) order;
-      past = c.check-in.ensures.past;
-      refused = on_let_go _ c.check-in.result c.let-go.result c.let-go.ensures c.check-in.ensures.refused;
+      after = λ rule. c.check_in.ensures.after rule ∙ ap (next_of rule l) order;
+      past = c.check_in.ensures.past;
+      refused = on_let_go _ c.check_in.result c.let_go.result c.let_go.ensures c.check_in.ensures.refused;
     }

@@ -13,12 +13,12 @@ pub returns : goal.returns
 returns c =
     let l = ledger_of c.args.self.now in
     let m = c.args.member in
-    let order = sym (through c.in-ok-in-field.field-0 (within 1 9999 m (OutOfRange 2)) (λ _. Ok (drop_ticket m)) c.in-ok-in-field.ensures) in
+    let order = sym (through c.in_ok-in_field.field-0 (within 1 9999 m (OutOfRange 2)) (λ _. Ok (drop_ticket m)) c.in_ok-in_field.ensures) in
     record {
       said = λ rule.
-          let_go tt _ (order_refusal rule l (drop_ticket m)) c.drop-ticket.result c.let-go.result c.let-go.ensures (c.drop-ticket.ensures.said rule)
+          let_go tt _ (order_refusal rule l (drop_ticket m)) c.drop_ticket.result c.let_go.result c.let_go.ensures (c.drop_ticket.ensures.said rule)
           ∙ ap (refusal_of rule l) order;
-      after = λ rule. c.drop-ticket.ensures.after rule ∙ ap (next_of rule l) order;
-      past = c.drop-ticket.ensures.past;
-      refused = on_let_go _ c.drop-ticket.result c.let-go.result c.let-go.ensures c.drop-ticket.ensures.refused;
+      after = λ rule. c.drop_ticket.ensures.after rule ∙ ap (next_of rule l) order;
+      past = c.drop_ticket.ensures.past;
+      refused = on_let_go _ c.drop_ticket.result c.let_go.result c.let_go.ensures c.drop_ticket.ensures.refused;
     }

@@ -9,12 +9,12 @@ use Rattle.frame_book.proofs.book.Book.enter_ticket.Goals as goal
 pub returns : goal.returns
 returns c =
     let l = ledger_of c.args.self.now in
-    let class = c.in-ok-class.ensures in
-    let measured : Ok c.in-ok-forces.forces ≡ forces 6 c.args.axial c.args.shear c.args.moment = search rules in
+    let class = c.in_ok-class.ensures in
+    let measured : Ok c.in_ok-forces.forces ≡ forces 6 c.args.axial c.args.shear c.args.moment = search rules in
     let order =
     open_measured c.args.member c.args.length c.args.class c.args.duration c.args.axial c.args.shear c.args.moment
-    c.in-ok-in-field.field-0 c.in-ok-length.length c.in-ok-class.class c.in-ok-forces.forces
-    c.in-ok-in-field.ensures c.in-ok-length.ensures class.number class.value measured in
+    c.in_ok-in_field.field-0 c.in_ok-length.length c.in_ok-class.class c.in_ok-forces.forces
+    c.in_ok-in_field.ensures c.in_ok-length.ensures class.number class.value measured in
     record {
       said = λ rule. c.open_measured.ensures.said rule ∙ ap (refusal_of rule l) order;
       after = λ rule. c.open_measured.ensures.after rule ∙ ap (next_of rule l) order;

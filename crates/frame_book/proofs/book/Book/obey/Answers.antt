@@ -15,10 +15,10 @@ returns-in-DefineGrade g c =
     let x = c.in-DefineGrade in
     let is = sym x.is in
     record {
-      said = c.said.ensures ∙ (ap (answered Done) (c.define-grade.ensures.said rule) ∙ (done_define_grade rule l x.grade x.bending x.compression x.tension x.shear x.modulus ∙ ap (told rule l) is));
-      after = c.define-grade.ensures.after rule ∙ ap (next rule l) is;
-      past = c.define-grade.ensures.past;
-      refused = on_answered _ c.define-grade.result c.said.result c.said.ensures c.define-grade.ensures.refused;
+      said = c.said.ensures ∙ (ap (answered Done) (c.define_grade.ensures.said rule) ∙ (done_define_grade rule l x.grade x.bending x.compression x.tension x.shear x.modulus ∙ ap (told rule l) is));
+      after = c.define_grade.ensures.after rule ∙ ap (next rule l) is;
+      past = c.define_grade.ensures.past;
+      refused = on_answered _ c.define_grade.result c.said.result c.said.ensures c.define_grade.ensures.refused;
     }
 
 pub returns-in-DefineClass : goal.returns-in-DefineClass
@@ -28,10 +28,10 @@ returns-in-DefineClass g c =
     let x = c.in-DefineClass in
     let is = sym x.is in
     record {
-      said = c.said-in-DefineClass.ensures ∙ (ap (answered Done) (c.define-class.ensures.said rule) ∙ (done_define_class rule l x.class x.strength x.modulus ∙ ap (told rule l) is));
-      after = c.define-class.ensures.after rule ∙ ap (next rule l) is;
-      past = c.define-class.ensures.past;
-      refused = on_answered _ c.define-class.result c.said-in-DefineClass.result c.said-in-DefineClass.ensures c.define-class.ensures.refused;
+      said = c.said-in-DefineClass.ensures ∙ (ap (answered Done) (c.define_class.ensures.said rule) ∙ (done_define_class rule l x.class x.strength x.modulus ∙ ap (told rule l) is));
+      after = c.define_class.ensures.after rule ∙ ap (next rule l) is;
+      past = c.define_class.ensures.past;
+      refused = on_answered _ c.define_class.result c.said-in-DefineClass.result c.said-in-DefineClass.ensures c.define_class.ensures.refused;
     }
 
 pub returns-in-AddCulm : goal.returns-in-AddCulm
@@ -41,10 +41,10 @@ returns-in-AddCulm g c =
     let x = c.in-AddCulm in
     let is = sym x.is in
     record {
-      said = c.said-in-AddCulm.ensures ∙ (ap (answered Done) (c.add-culm.ensures.said rule) ∙ (done_add_culm rule l x.culm x.grade x.diameter x.wall x.straightness ∙ ap (told rule l) is));
-      after = c.add-culm.ensures.after rule ∙ ap (next rule l) is;
-      past = c.add-culm.ensures.past;
-      refused = on_answered _ c.add-culm.result c.said-in-AddCulm.result c.said-in-AddCulm.ensures c.add-culm.ensures.refused;
+      said = c.said-in-AddCulm.ensures ∙ (ap (answered Done) (c.add_culm.ensures.said rule) ∙ (done_add_culm rule l x.culm x.grade x.diameter x.wall x.straightness ∙ ap (told rule l) is));
+      after = c.add_culm.ensures.after rule ∙ ap (next rule l) is;
+      past = c.add_culm.ensures.past;
+      refused = on_answered _ c.add_culm.result c.said-in-AddCulm.result c.said-in-AddCulm.ensures c.add_culm.ensures.refused;
     }
 
 pub returns-in-ScrapCulm : goal.returns-in-ScrapCulm
@@ -54,10 +54,10 @@ returns-in-ScrapCulm g c =
     let x = c.in-ScrapCulm in
     let is = sym x.is in
     record {
-      said = c.said-in-ScrapCulm.ensures ∙ (ap (answered Done) (c.scrap-culm.ensures.said rule) ∙ (done_scrap_culm rule l x.culm ∙ ap (told rule l) is));
-      after = c.scrap-culm.ensures.after rule ∙ ap (next rule l) is;
-      past = c.scrap-culm.ensures.past;
-      refused = on_answered _ c.scrap-culm.result c.said-in-ScrapCulm.result c.said-in-ScrapCulm.ensures c.scrap-culm.ensures.refused;
+      said = c.said-in-ScrapCulm.ensures ∙ (ap (answered Done) (c.scrap_culm.ensures.said rule) ∙ (done_scrap_culm rule l x.culm ∙ ap (told rule l) is));
+      after = c.scrap_culm.ensures.after rule ∙ ap (next rule l) is;
+      past = c.scrap_culm.ensures.past;
+      refused = on_answered _ c.scrap_culm.result c.said-in-ScrapCulm.result c.said-in-ScrapCulm.ensures c.scrap_culm.ensures.refused;
     }
 
 pub returns-in-Open : goal.returns-in-Open
@@ -68,10 +68,10 @@ returns-in-Open g c =
     let same : to_z w32 (of_z w32 x.axial) ≡ x.axial = search rules in
     let is = ap (λ (z : ℤ). Open x.member x.length x.class x.duration z x.shear x.moment) same ∙ sym x.is in
     record {
-      said = c.said-in-Open.ensures ∙ (ap (answered Done) (c.enter-ticket.ensures.said rule) ∙ (done_open rule l x.member x.length x.class x.duration (to_z w32 (of_z w32 x.axial)) x.shear x.moment ∙ ap (told rule l) is));
-      after = c.enter-ticket.ensures.after rule ∙ ap (next rule l) is;
-      past = c.enter-ticket.ensures.past;
-      refused = on_answered _ c.enter-ticket.result c.said-in-Open.result c.said-in-Open.ensures c.enter-ticket.ensures.refused;
+      said = c.said-in-Open.ensures ∙ (ap (answered Done) (c.enter_ticket.ensures.said rule) ∙ (done_open rule l x.member x.length x.class x.duration (to_z w32 (of_z w32 x.axial)) x.shear x.moment ∙ ap (told rule l) is));
+      after = c.enter_ticket.ensures.after rule ∙ ap (next rule l) is;
+      past = c.enter_ticket.ensures.past;
+      refused = on_answered _ c.enter_ticket.result c.said-in-Open.result c.said-in-Open.ensures c.enter_ticket.ensures.refused;
     }
 
 pub returns-in-CheckOut : goal.returns-in-CheckOut
@@ -81,10 +81,10 @@ returns-in-CheckOut g c =
     let x = c.in-CheckOut in
     let is = sym x.is in
     record {
-      said = c.said-in-CheckOut.ensures ∙ (ap (answered Done) (c.check-out-by.ensures.said rule) ∙ (done_check_out rule l x.member ∙ ap (told rule l) is));
-      after = c.check-out-by.ensures.after rule ∙ ap (next rule l) is;
-      past = c.check-out-by.ensures.past;
-      refused = on_answered _ c.check-out-by.result c.said-in-CheckOut.result c.said-in-CheckOut.ensures c.check-out-by.ensures.refused;
+      said = c.said-in-CheckOut.ensures ∙ (ap (answered Done) (c.check_out_by.ensures.said rule) ∙ (done_check_out rule l x.member ∙ ap (told rule l) is));
+      after = c.check_out_by.ensures.after rule ∙ ap (next rule l) is;
+      past = c.check_out_by.ensures.past;
+      refused = on_answered _ c.check_out_by.result c.said-in-CheckOut.result c.said-in-CheckOut.ensures c.check_out_by.ensures.refused;
     }
 
 pub returns-in-CheckIn : goal.returns-in-CheckIn
@@ -94,10 +94,10 @@ returns-in-CheckIn g c =
     let x = c.in-CheckIn in
     let is = sym x.is in
     record {
-      said = c.said-in-CheckIn.ensures ∙ (ap (answered Done) (c.check-in-by.ensures.said rule) ∙ (done_check_in rule l x.member ∙ ap (told rule l) is));
-      after = c.check-in-by.ensures.after rule ∙ ap (next rule l) is;
-      past = c.check-in-by.ensures.past;
-      refused = on_answered _ c.check-in-by.result c.said-in-CheckIn.result c.said-in-CheckIn.ensures c.check-in-by.ensures.refused;
+      said = c.said-in-CheckIn.ensures ∙ (ap (answered Done) (c.check_in_by.ensures.said rule) ∙ (done_check_in rule l x.member ∙ ap (told rule l) is));
+      after = c.check_in_by.ensures.after rule ∙ ap (next rule l) is;
+      past = c.check_in_by.ensures.past;
+      refused = on_answered _ c.check_in_by.result c.said-in-CheckIn.result c.said-in-CheckIn.ensures c.check_in_by.ensures.refused;
     }
 
 pub returns-in-Hold : goal.returns-in-Hold
@@ -107,10 +107,10 @@ returns-in-Hold g c =
     let x = c.in-Hold in
     let is = sym x.is in
     record {
-      said = c.said-in-Hold.ensures ∙ (ap (answered Done) (c.hold-by.ensures.said rule) ∙ (done_hold rule l x.member x.culm ∙ ap (told rule l) is));
-      after = c.hold-by.ensures.after rule ∙ ap (next rule l) is;
-      past = c.hold-by.ensures.past;
-      refused = on_answered _ c.hold-by.result c.said-in-Hold.result c.said-in-Hold.ensures c.hold-by.ensures.refused;
+      said = c.said-in-Hold.ensures ∙ (ap (answered Done) (c.hold_by.ensures.said rule) ∙ (done_hold rule l x.member x.culm ∙ ap (told rule l) is));
+      after = c.hold_by.ensures.after rule ∙ ap (next rule l) is;
+      past = c.hold_by.ensures.past;
+      refused = on_answered _ c.hold_by.result c.said-in-Hold.result c.said-in-Hold.ensures c.hold_by.ensures.refused;
     }
 
 pub returns-in-Free : goal.returns-in-Free
@@ -120,10 +120,10 @@ returns-in-Free g c =
     let x = c.in-Free in
     let is = sym x.is in
     record {
-      said = c.said-in-Free.ensures ∙ (ap (answered Done) (c.free-by.ensures.said rule) ∙ (done_free rule l x.member x.culm ∙ ap (told rule l) is));
-      after = c.free-by.ensures.after rule ∙ ap (next rule l) is;
-      past = c.free-by.ensures.past;
-      refused = on_answered _ c.free-by.result c.said-in-Free.result c.said-in-Free.ensures c.free-by.ensures.refused;
+      said = c.said-in-Free.ensures ∙ (ap (answered Done) (c.free_by.ensures.said rule) ∙ (done_free rule l x.member x.culm ∙ ap (told rule l) is));
+      after = c.free_by.ensures.after rule ∙ ap (next rule l) is;
+      past = c.free_by.ensures.past;
+      refused = on_answered _ c.free_by.result c.said-in-Free.result c.said-in-Free.ensures c.free_by.ensures.refused;
     }
 
 pub returns-in-Judge : goal.returns-in-Judge
@@ -133,10 +133,10 @@ returns-in-Judge g c =
     let x = c.in-Judge in
     let is = sym x.is in
     record {
-      said = c.said-in-Judge.ensures ∙ (ap (answered Done) c.judge-by.ensures.said ∙ (done_judge rule l x.member ∙ ap (told rule l) is));
-      after = c.judge-by.ensures.after ∙ ap (next rule l) is;
-      past = c.judge-by.ensures.past;
-      refused = on_answered _ c.judge-by.result c.said-in-Judge.result c.said-in-Judge.ensures c.judge-by.ensures.refused;
+      said = c.said-in-Judge.ensures ∙ (ap (answered Done) c.judge_by.ensures.said ∙ (done_judge rule l x.member ∙ ap (told rule l) is));
+      after = c.judge_by.ensures.after ∙ ap (next rule l) is;
+      past = c.judge_by.ensures.past;
+      refused = on_answered _ c.judge_by.result c.said-in-Judge.result c.said-in-Judge.ensures c.judge_by.ensures.refused;
     }
 
 pub returns-in-Set : goal.returns-in-Set
@@ -146,10 +146,10 @@ returns-in-Set g c =
     let x = c.in-Set in
     let is = sym x.is in
     record {
-      said = c.said-in-Set.ensures ∙ (ap (answered Done) (c.set-by.ensures.said rule) ∙ (done_set rule l x.member ∙ ap (told rule l) is));
-      after = c.set-by.ensures.after rule ∙ ap (next rule l) is;
-      past = c.set-by.ensures.past;
-      refused = on_answered _ c.set-by.result c.said-in-Set.result c.said-in-Set.ensures c.set-by.ensures.refused;
+      said = c.said-in-Set.ensures ∙ (ap (answered Done) (c.set_by.ensures.said rule) ∙ (done_set rule l x.member ∙ ap (told rule l) is));
+      after = c.set_by.ensures.after rule ∙ ap (next rule l) is;
+      past = c.set_by.ensures.past;
+      refused = on_answered _ c.set_by.result c.said-in-Set.result c.said-in-Set.ensures c.set_by.ensures.refused;
     }
 
 pub returns-in-DropTicket : goal.returns-in-DropTicket
@@ -159,10 +159,10 @@ returns-in-DropTicket g c =
     let x = c.in-DropTicket in
     let is = sym x.is in
     record {
-      said = c.said-in-DropTicket.ensures ∙ (ap (answered Done) (c.drop-by.ensures.said rule) ∙ (done_drop_ticket rule l x.member ∙ ap (told rule l) is));
-      after = c.drop-by.ensures.after rule ∙ ap (next rule l) is;
-      past = c.drop-by.ensures.past;
-      refused = on_answered _ c.drop-by.result c.said-in-DropTicket.result c.said-in-DropTicket.ensures c.drop-by.ensures.refused;
+      said = c.said-in-DropTicket.ensures ∙ (ap (answered Done) (c.drop_by.ensures.said rule) ∙ (done_drop_ticket rule l x.member ∙ ap (told rule l) is));
+      after = c.drop_by.ensures.after rule ∙ ap (next rule l) is;
+      past = c.drop_by.ensures.past;
+      refused = on_answered _ c.drop_by.result c.said-in-DropTicket.result c.said-in-DropTicket.ensures c.drop_by.ensures.refused;
     }
 
 pub returns-in-Strike : goal.returns-in-Strike
@@ -199,10 +199,10 @@ returns-in-JudgeWithout g c =
     let x = c.in-JudgeWithout in
     let is = sym x.is in
     record {
-      said = c.said-in-JudgeWithout.ensures ∙ (ap (answered Done) c.judge-without.ensures.said ∙ (done_judge_without rule l x.member x.culm ∙ ap (told rule l) is));
-      after = c.judge-without.ensures.after ∙ (sym (without_same rule l x.member x.culm) ∙ ap (next rule l) is);
-      past = c.judge-without.ensures.past;
-      refused = on_answered _ c.judge-without.result c.said-in-JudgeWithout.result c.said-in-JudgeWithout.ensures c.judge-without.ensures.refused;
+      said = c.said-in-JudgeWithout.ensures ∙ (ap (answered Done) c.judge_without.ensures.said ∙ (done_judge_without rule l x.member x.culm ∙ ap (told rule l) is));
+      after = c.judge_without.ensures.after ∙ (sym (without_same rule l x.member x.culm) ∙ ap (next rule l) is);
+      past = c.judge_without.ensures.past;
+      refused = on_answered _ c.judge_without.result c.said-in-JudgeWithout.result c.said-in-JudgeWithout.ensures c.judge_without.ensures.refused;
     }
 
 pub returns-in-LookCulm : goal.returns-in-LookCulm
@@ -213,10 +213,10 @@ returns-in-LookCulm g c =
     let x = c.in-LookCulm in
     let is = sym x.is in
     record {
-      said = c.told_culm_lem.ensures rule ∙ ap (told rule l) is;
+      said = c.told_culm.ensures rule ∙ ap (told rule l) is;
       after = sym (culm_same rule l x.culm) ∙ ap (next rule l) is;
       past = past_none b;
-      refused = on_any _ c.told_culm_lem.result (unchanged b);
+      refused = on_any _ c.told_culm.result (unchanged b);
     }
 
 pub returns-in-LookMember : goal.returns-in-LookMember
@@ -227,8 +227,8 @@ returns-in-LookMember g c =
     let x = c.in-LookMember in
     let is = sym x.is in
     record {
-      said = c.told_member_lem.ensures rule ∙ ap (told rule l) is;
+      said = c.told_member.ensures rule ∙ ap (told rule l) is;
       after = sym (member_same rule l x.member) ∙ ap (next rule l) is;
       past = past_none b;
-      refused = on_any _ c.told_member_lem.result (unchanged b);
+      refused = on_any _ c.told_member.result (unchanged b);
     }

@@ -16,9 +16,9 @@ returns-in-Ok c =
           ap (gives (unjudged a.member))
           (c.in-Ok.ensures.said rule ∙ ap (λ (n : ℤ). refusal rule l (Open a.member a.length a.class a.duration n a.shear a.moment)) axial);
       after = λ rule.
-          c.enter-ticket.ensures.after rule
+          c.enter_ticket.ensures.after rule
           ∙ ap (λ (n : ℤ). next rule l (Open a.member a.length a.class a.duration n a.shear a.moment)) axial;
-      past = c.enter-ticket.ensures.past;
+      past = c.enter_ticket.ensures.past;
       refused = tt;
     }
 
@@ -32,8 +32,8 @@ returns-in-Err c =
           ap (gives (unjudged a.member))
           (c.in-Err.ensures.said rule ∙ ap (λ (n : ℤ). refusal rule l (Open a.member a.length a.class a.duration n a.shear a.moment)) axial);
       after = λ rule.
-          c.enter-ticket.ensures.after rule
+          c.enter_ticket.ensures.after rule
           ∙ ap (λ (n : ℤ). next rule l (Open a.member a.length a.class a.duration n a.shear a.moment)) axial;
-      past = c.enter-ticket.ensures.past;
+      past = c.enter_ticket.ensures.past;
       refused = c.in-Err.ensures.refused;
     }

@@ -13,12 +13,12 @@ pub returns : goal.returns
 returns c =
     let l = ledger_of c.args.self.now in
     let m = c.args.member in
-    let order = sym (through c.in-ok-in-field.field-0 (within 1 9999 m (OutOfRange 2)) (λ _. Ok (set_member m)) c.in-ok-in-field.ensures) in
+    let order = sym (through c.in_ok-in_field.field-0 (within 1 9999 m (OutOfRange 2)) (λ _. Ok (set_member m)) c.in_ok-in_field.ensures) in
     record {
       said = λ rule.
-          let_go tt _ (order_refusal rule l (set_member m)) c.set.result c.let-judged-go.result c.let-judged-go.ensures (c.set.ensures.said rule)
+          let_go tt _ (order_refusal rule l (set_member m)) c.set.result c.let_judged_go.result c.let_judged_go.ensures (c.set.ensures.said rule)
           ∙ ap (refusal_of rule l) order;
       after = λ rule. c.set.ensures.after rule ∙ ap (next_of rule l) order;
       past = c.set.ensures.past;
-      refused = on_let_go _ c.set.result c.let-judged-go.result c.let-judged-go.ensures c.set.ensures.refused;
+      refused = on_let_go _ c.set.result c.let_judged_go.result c.let_judged_go.ensures c.set.ensures.refused;
     }
