@@ -1,12 +1,17 @@
 -- Two sound codes joined are sound. Assumes nothing.
 use Rattle.std.specs.Prelude.{◌⊎◌, ◌≡◌, refl, ℕ}
-use Rattle.std.proofs.Common.{inl, inr, arith}
+use Rattle.std.proofs.Common.{inl, inr, subst}
 use Rattle.design_code.specs.Meaning.{Meaning, Sound, first, joined_with}
 use Rattle.design_code.specs.declared.verdict.Verdict.{Verdict}
 use Rattle.design_code.specs.declared.verdict.Verdict.TheVariants.{Met, Refused}
 
+-- P of a met verdict, nothing of a refusal
+abbrev where_met : Type 0 → Verdict → Type 0
+where_met P Met = P
+where_met P (Refused k) = Unit {0}
+
 pub apart : {P : Type 0} (k : ℕ) → Refused k ≡ Met → P
-apart k e = let z : ◌≡◌ {A = ℕ} 0 1 = cc in let n : ⊥ = omega arith in absurd n
+apart {P = P} k e = subst (where_met P) e tt
 
 -- where the first of two is refused, the refusal is its own; else the second's
 pub first_refused : (v w : Verdict) (k : ℕ) → first v w ≡ Refused k → (v ≡ Refused k) ⊎ (w ≡ Refused k)

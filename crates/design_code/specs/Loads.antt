@@ -1,8 +1,8 @@
 -- The forces on a bundle as fractions, as recorded and grown a little. Assumes nothing.
-use Rattle.std.specs.Prelude.{ℕ, zero, suc, ◌*◌, ◌<◌, ℤ, pos, negsuc, neg_ℤ}
+use Rattle.std.specs.Prelude.{ℕ, zero, suc, ◌<◌, ℤ, pos, negsuc, neg_ℤ}
 use Rattle.exact.specs.Fraction.{Fraction, over, whole, plus, times, AtMost}
 use Rattle.exact.specs.Laws.{Same}
-use Rattle.exact.specs.Signed.{Signed, times_signed, SameSigned, Grows}
+use Rattle.exact.specs.Signed.{Signed, SameSigned, Grows}
 use Rattle.quantities.specs.declared.forces.Forces.{Forces}
 
 -- axial force (positive in compression, negative in tension), shear force and bending moment

@@ -21,7 +21,7 @@ module _ {X : Type 0} (key : X → ℕ) where
     pub rows : u.rows.now ≡ xs ++ drop (length xs) t.rows.now
     pub count : u.used ≡ length xs
     pub limit : u.limit ≡ t.limit
-    pub lent : u.rows.name ≡ t.rows.name
+    pub lent : u.rows.ghost_name ≡ t.rows.ghost_name
 
   past_limit : (xs rows : List X) (limit : ℕ) → length xs ≤ limit → drop limit (xs ++ drop (length xs) rows) ≡ drop limit rows
   past_limit xs rows limit h =

@@ -20,7 +20,7 @@ pub record Changed {X : Type 0} (t u : Table X) (xs : List X) : Type 0 where
   pub behind : drop (length xs) u.rows.now ≡ drop (length xs) t.rows.now
   pub past : drop t.limit u.rows.now ≡ drop t.limit t.rows.now
   pub limit : u.limit ≡ t.limit
-  pub lent : u.rows.name ≡ t.rows.name
+  pub lent : u.rows.ghost_name ≡ t.rows.ghost_name
 
 -- after a refusal everything is as it was
 abbrev pub Kept : {T V : Type 0} → Result V Refusal → T → T → Type 0

@@ -10,15 +10,15 @@ pub trait Change<R: Numbered> {
     fn done(&self, row: R) -> R
         ensures row { result ≡ does self.now row };
 
-    ghost numbers: { (change : Self) (row : R) → R.Numbered.key (does change row) ≡ R.Numbered.key row };
+    ghost numbers: { (change : Self) (row : R) → R.key (does change row) ≡ R.key row };
 }
 
 impl<'a, R: Numbered> Table<'a, R> {
     /// Changes every row in use.
     pub fn change_all<C: Change<R>>(&mut self, change: &C)
-        requires sound { Sound key self.old }
-        ensures change { Changed self.old self.new (map (C.Change.does change.now) (content self.old)) }
-        ensures sound { Sound key self.new }
+        requires sound { Sound R.key self.old }
+        ensures change { Changed self.old self.new (map (C.does change.now) (content self.old)) }
+        ensures sound { Sound R.key self.new }
     {
         let used = self.used;
         change_rows(&mut self.rows[0..used], change);
@@ -27,7 +27,7 @@ impl<'a, R: Numbered> Table<'a, R> {
 
 /// Changes each of the rows.
 fn change_rows<R: Numbered, C: Change<R>>(rows: &mut [R], change: &C)
-    ensures rows { rows.new ≡ map (C.Change.does change.now) rows.old }
+    ensures rows { rows.new ≡ map (C.does change.now) rows.old }
 {
     for row in rows.iter_mut() {
         *row = change.done(*row);

@@ -5,8 +5,8 @@ use super::Numbered;
 
 /// Computes nothing: its contract holds the laws of the words that the table's contracts are written in.
 pub fn laws_of_rows<R: Numbered>()
-    ensures finding { Finding key }
-    ensures adding { (x : R) (xs : List R) → Adding key x xs }
-    ensures removing { (n : ℕ) (xs : List R) → Removing key n xs }
-    ensures replacing { (x : R) (xs : List R) → Replacing key x xs }
+    ensures finding { Finding R.key }
+    ensures adding { (x : R) (xs : List R) → Adding R.key x xs }
+    ensures removing { (n : ℕ) (xs : List R) → Removing R.key n xs }
+    ensures replacing { (x : R) (xs : List R) → Replacing R.key x xs }
 {}

@@ -21,11 +21,11 @@ pub trait Question<R> {
 impl<'a, R: Numbered> Table<'a, R> {
     /// Asks a question about the rows in use.
     pub fn ask<Q: Question<R>>(&mut self, question: &Q) -> Q::Answer
-        requires sound { Sound key self.old }
-        requires can { Q.Question.can question.now (content self.old) }
-        ensures answer { Q.Question.says question.now (content self.old) result }
+        requires sound { Sound R.key self.old }
+        requires can { Q.can question.now (content self.old) }
+        ensures answer { Q.says question.now (content self.old) result }
         ensures same { self.new ≡ self.old }
-        ensures sound { Sound key self.new }
+        ensures sound { Sound R.key self.new }
     {
         let used = self.used;
         question.ask(&mut self.rows[0..used])

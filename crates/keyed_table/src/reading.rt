@@ -8,7 +8,7 @@ use super::{Numbered, Table};
 impl<'a, R: Numbered> Table<'a, R> {
     /// How many rows are in use.
     pub fn count(&self) -> usize
-        requires sound { Sound key self.now }
+        requires sound { Sound R.key self.now }
         ensures count { result ≡ length (content self.now) }
     {
         self.rows().len()
@@ -16,7 +16,7 @@ impl<'a, R: Numbered> Table<'a, R> {
 
     /// The rows in use.
     pub fn rows(&self) -> &[R]
-        requires sound { Sound key self.now }
+        requires sound { Sound R.key self.now }
         ensures rows { result.now ≡ content self.now }
     {
         &self.rows[0..self.used]
@@ -24,8 +24,8 @@ impl<'a, R: Numbered> Table<'a, R> {
 
     /// The place of the row with this number, or else the place where such a row belongs.
     pub(crate) fn seek(&self, number: u32) -> Result<usize, usize>
-        requires sound { Sound key self.now }
-        ensures place { Sought key number (content self.now) result }
+        requires sound { Sound R.key self.now }
+        ensures place { Sought R.key number (content self.now) result }
     {
         let rows = self.rows();
         let at = lower_bound(rows, number);
@@ -38,8 +38,8 @@ impl<'a, R: Numbered> Table<'a, R> {
 
     /// The place of the row with this number among the rows in use.
     pub fn find(&self, number: u32) -> Option<usize>
-        requires sound { Sound key self.now }
-        ensures place { Found key number (content self.now) result }
+        requires sound { Sound R.key self.now }
+        ensures place { Found R.key number (content self.now) result }
     {
         match self.seek(number) {
             Ok(at) => Some(at),
@@ -49,8 +49,8 @@ impl<'a, R: Numbered> Table<'a, R> {
 
     /// The row with this number.
     pub fn get(&self, number: u32) -> Option<R>
-        requires sound { Sound key self.now }
-        ensures row { result ≡ lookup key number (content self.now) }
+        requires sound { Sound R.key self.now }
+        ensures row { result ≡ lookup R.key number (content self.now) }
     {
         match self.find(number) {
             Some(at) => Some(self.rows()[at]),

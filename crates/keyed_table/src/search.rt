@@ -5,8 +5,8 @@ use super::Numbered;
 
 /// How many rows have a number below `number`, where the numbers rise. Each turn reads one row at most.
 pub fn lower_bound<R: Numbered>(rows: &[R], number: u32) -> usize
-    requires order { StrictlyRising key rows.now }
-    ensures place { result ≡ below key number rows.now }
+    requires order { StrictlyRising R.key rows.now }
+    ensures place { result ≡ below R.key number rows.now }
 {
     let mut low = 0;
     let mut high = rows.len();

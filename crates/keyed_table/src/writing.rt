@@ -13,7 +13,7 @@ impl<'a, R: Numbered> Table<'a, R> {
         ensures limit { result.limit ≡ min limit (length rows.old) }
         ensures rows { result.rows.now ≡ rows.old }
         ensures lent { result.rows.ghost_name ≡ rows.entry.ghost_name }
-        ensures sound { Sound key result }
+        ensures sound { Sound R.key result }
     {
         let limit = limit.min(rows.len());
         Table {
@@ -25,11 +25,11 @@ impl<'a, R: Numbered> Table<'a, R> {
 
     /// Puts a row with a new number in its place.
     pub fn insert(&mut self, row: R) -> Result<(), Refusal>
-        requires sound { Sound key self.old }
-        ensures answer { result ≡ insertion key row self.old.limit (content self.old) }
-        ensures change { Changed self.old self.new (enlarged key row self.old.limit (content self.old)) }
+        requires sound { Sound R.key self.old }
+        ensures answer { result ≡ insertion R.key row self.old.limit (content self.old) }
+        ensures change { Changed self.old self.new (enlarged R.key row self.old.limit (content self.old)) }
         ensures refusal { Kept result self.old self.new }
-        ensures sound { Sound key self.new }
+        ensures sound { Sound R.key self.new }
     {
         match self.seek(row.number()) {
             Ok(_) => Err(Refusal::NumberTaken),
@@ -47,11 +47,11 @@ impl<'a, R: Numbered> Table<'a, R> {
 
     /// Takes the row with this number out; its place is free again.
     pub fn remove(&mut self, number: u32) -> Result<R, Refusal>
-        requires sound { Sound key self.old }
-        ensures answer { result ≡ ok_or (lookup key number (content self.old)) Refusal.NoSuchRow }
-        ensures change { Changed self.old self.new (without key number (content self.old)) }
+        requires sound { Sound R.key self.old }
+        ensures answer { result ≡ ok_or (lookup R.key number (content self.old)) Refusal.NoSuchRow }
+        ensures change { Changed self.old self.new (without R.key number (content self.old)) }
         ensures refusal { Kept result self.old self.new }
-        ensures sound { Sound key self.new }
+        ensures sound { Sound R.key self.new }
     {
         let Some(at) = self.find(number) else {
             return Err(Refusal::NoSuchRow);
@@ -65,11 +65,11 @@ impl<'a, R: Numbered> Table<'a, R> {
 
     /// Puts `row` in place of the row with its number, and answers the row that was there.
     pub fn replace(&mut self, row: R) -> Result<R, Refusal>
-        requires sound { Sound key self.old }
-        ensures answer { result ≡ ok_or (lookup key (key row) (content self.old)) Refusal.NoSuchRow }
-        ensures change { Changed self.old self.new (replaced key row (content self.old)) }
+        requires sound { Sound R.key self.old }
+        ensures answer { result ≡ ok_or (lookup R.key (R.key row) (content self.old)) Refusal.NoSuchRow }
+        ensures change { Changed self.old self.new (replaced R.key row (content self.old)) }
         ensures refusal { Kept result self.old self.new }
-        ensures sound { Sound key self.new }
+        ensures sound { Sound R.key self.new }
     {
         let Some(at) = self.find(row.number()) else {
             return Err(Refusal::NoSuchRow);

@@ -8,8 +8,8 @@ pub returns : goal.returns
 returns g c =
     let t = c.args.self.now in
     let does = g.C.Change.does c.args.change.now in
-    let rows : c.change-rows.new.rows ++ drop (t.used - 0) t.rows.now ≡ map does (content t) ++ drop t.used t.rows.now =
-    ap (λ xs. xs ++ drop (t.used - 0) t.rows.now) c.change-rows.ensures.rows
+    let rows : c.change_rows.new.rows ++ drop (t.used - 0) t.rows.now ≡ map does (content t) ++ drop t.used t.rows.now =
+    ap (λ xs. xs ++ drop (t.used - 0) t.rows.now) c.change_rows.ensures.rows
     ∙ ap (λ n. map does (take n t.rows.now) ++ drop n t.rows.now) (sub-zero t.used) in
     let all = changes g.R.Numbered.key does (g.met.C.Change.numbers c.args.change.now) t _ c.requires.sound rows refl refl refl in
     record { change = all.0; sound = all.1 }

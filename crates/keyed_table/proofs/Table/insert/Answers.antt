@@ -6,8 +6,8 @@ use Rattle.keyed_table.proofs.ByNumber.{at_own, lacks_own}
 use Rattle.keyed_table.proofs.Frames.{length_content, inserts, unchanged, taken, full, accepted}
 use Rattle.keyed_table.proofs.Table.insert.Goals as goal
 
-pub shift-in-requires : goal.shift-in-requires
-shift-in-requires g c =
+pub shift_in-requires : goal.shift_in-requires
+shift_in-requires g c =
     let key = g.R.Numbered.key in
     let t = c.args.self.now in
     let length-used = length_content key t c.requires.sound in
@@ -40,5 +40,5 @@ returns-else-self g c =
     let room : t.used < t.limit = omega arith in
     let is = accepted key c.args.row t.limit (content t) lacks (omega arith) in
     let place = c.in-Err.ensures.place.1 ∙ ap (λ n. below key n (content t)) c.number.ensures.number in
-    let all = inserts key t _ c.in-Err.at c.args.row c.requires.sound lacks place room c.shift-in.ensures.rows refl refl refl in
+    let all = inserts key t _ c.in-Err.at c.args.row c.requires.sound lacks place room c.shift_in.ensures.rows refl refl refl in
     record { answer = sym is.0; change = subst (Changed t _) (sym is.1) all.0; refusal = tt; sound = all.1 }

@@ -5,10 +5,10 @@ use Rattle.keyed_table.proofs.ByNumber.{lookup_read, lookup_lacks, without_lacks
 use Rattle.keyed_table.proofs.Frames.{removes, unchanged}
 use Rattle.keyed_table.proofs.Table.remove.Goals as goal
 
-pub returns-in-default : goal.returns-in-default
-returns-in-default g c =
+pub returns-in_default : goal.returns-in_default
+returns-in_default g c =
     let key = g.R.Numbered.key in
-    let lacks = c.in-default.ensures.place in
+    let lacks = c.in_default.ensures.place in
     record {
       answer = sym (ap (λ o. ok_or o NoSuchRow) (lookup_lacks key _ _ lacks));
       change = unchanged key c.args.self.now _ c.requires.sound (sym (without_lacks key _ _ lacks));
@@ -20,7 +20,7 @@ pub returns : goal.returns
 returns g c =
     let key = g.R.Numbered.key in
     let found = c.in-Some.ensures.place in
-    let all = removes key c.args.self.now _ c.args.number c.in-Some.at c.index-rows-at.result c.requires.sound found c.shift-out.ensures.rows refl refl refl in
+    let all = removes key c.args.self.now _ c.args.number c.in-Some.at c.index-rows-at.result c.requires.sound found c.shift_out.ensures.rows refl refl refl in
     record {
       answer = sym (ap (λ o. ok_or o NoSuchRow) (lookup_read key _ _ _ _ _ c.requires.sound.2 found c.rows.ensures.rows c.index-rows-at.is));
       change = all.0;

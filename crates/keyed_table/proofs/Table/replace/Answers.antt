@@ -5,11 +5,11 @@ use Rattle.keyed_table.proofs.ByNumber.{at_own, lacks_own, lookup_read, lookup_l
 use Rattle.keyed_table.proofs.Frames.{replaces, unchanged}
 use Rattle.keyed_table.proofs.Table.replace.Goals as goal
 
-pub returns-in-default : goal.returns-in-default
-returns-in-default g c =
+pub returns-in_default : goal.returns-in_default
+returns-in_default g c =
     let key = g.R.Numbered.key in
     let t = c.args.self.now in
-    let lacks = lacks_own key c.args.row _ _ c.number.ensures.number c.in-default.ensures.place in
+    let lacks = lacks_own key c.args.row _ _ c.number.ensures.number c.in_default.ensures.place in
     record {
       answer = sym (ap (λ o. ok_or o NoSuchRow) (lookup_lacks key _ _ lacks));
       change = unchanged key t _ c.requires.sound (sym (replaced_lacks key _ _ lacks));

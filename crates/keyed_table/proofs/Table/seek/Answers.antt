@@ -9,10 +9,10 @@ pub returns-else-at-rows : goal.returns-else-at-rows
 returns-else-at-rows g c =
     let key = g.R.Numbered.key in
     let rows = c.rows-rows.ensures.rows in
-    let place : c.lower-bound-at.result ≡ below key c.args.number (content c.args.self.now) = c.lower-bound-at.ensures.place ∙ ap (below key c.args.number) rows in
+    let place : c.lower_bound-at.result ≡ below key c.args.number (content c.args.self.now) = c.lower_bound-at.ensures.place ∙ ap (below key c.args.number) rows in
     let lacks : NoRowHas key c.args.number (content c.args.self.now) = elim c.else-at-rows.branch [
       | else-at-rows-via-then-at-rows+else-number w ↦
-          lacks_other key _ _ _ _ _ c.requires.sound.2 place (w.index-rows-at.is ∙ ap (λ xs. get_or xs c.lower-bound-at.result w.index-rows-at.result) rows) w.number.ensures.number w.if-number.false
+          lacks_other key _ _ _ _ _ c.requires.sound.2 place (w.index-rows-at.is ∙ ap (λ xs. get_or xs c.lower_bound-at.result w.index-rows-at.result) rows) w.number.ensures.number w.if-number.false
       | else-at-rows-via-else-at-rows w ↦ lacks_end key _ _ _ c.requires.sound.2 place (omega (arith, w.if-at-rows.false, ap length rows))
     ] in
     record { place = (lacks, place) }

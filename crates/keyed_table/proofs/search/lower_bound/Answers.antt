@@ -9,7 +9,7 @@ loop-turn-init g c = (
   omega arith,
   (place_below g.R.Numbered.key c.args.number c.args.rows.now).within,
   omega arith,
-  simp sub-zero c.binary-digits-turns.ensures.enough,
+  simp sub-zero c.binary_digits-turns.ensures.enough,
 )
 
 pub loop-turn-preserved : goal.loop-turn-preserved

@@ -6,7 +6,7 @@ use Rattle.stock.specs.Gathering.{first_grade}
 use Rattle.stock.specs.Rows.{bundle_in, part_in}
 use Rattle.stock.proofs.Gathers.{next_row, small_before, grade_more, grade_none}
 use Rattle.stock.proofs.gather.extent_of.Goals as goal
-use Rattle.stock.proofs.gather.extent_of.Goals.{in-Some, in-default}
+use Rattle.stock.proofs.gather.extent_of.Goals.{in-Some, in_default}
 
 pub widened-sum-requires : goal.widened-sum-requires
 widened-sum-requires c =
@@ -33,11 +33,11 @@ loop-row-preserved c =
             ∙ ap (λ g. first_grade g w.in-Some.culm.grade) c.loop-row.invariant.1
             ∙ sym (ap grade_held e ∙ grade_more (bundle_in m (take i rows)) (part_in m row) (piece_of w.in-Some.culm) w.in-Some.ensures),
       )
-      | in-default w ↦ (
-        omega (arith, ap length e, l, ap length w.in-default.ensures, ap (λ s. s.count) w.sum-is, c.loop-row.invariant.0),
+      | in_default w ↦ (
+        omega (arith, ap length e, l, ap length w.in_default.ensures, ap (λ s. s.count) w.sum-is, c.loop-row.invariant.0),
         ap (λ s. s.grade) w.sum-is
             ∙ c.loop-row.invariant.1
-            ∙ sym (ap grade_held e ∙ grade_none (bundle_in m (take i rows)) (part_in m row) w.in-default.ensures),
+            ∙ sym (ap grade_held e ∙ grade_none (bundle_in m (take i rows)) (part_in m row) w.in_default.ensures),
       )
     ]
 

@@ -4,7 +4,7 @@ use Rattle.ledger.specs.Table.{question_of}
 use Rattle.stock.specs.Rows.{bundle_in, part_in, as_question}
 use Rattle.stock.proofs.Gathers.{next_row, small_before, room_for, one_more, none_more}
 use Rattle.stock.proofs.gather.gather.Goals as goal
-use Rattle.stock.proofs.gather.gather.Goals.{in-Some, in-default}
+use Rattle.stock.proofs.gather.gather.Goals.{in-Some, in_default}
 
 pub extend-requires : goal.extend-requires
 extend-requires c =
@@ -26,9 +26,9 @@ loop-row-preserved c =
           ap (λ b. as_question b member) w.bundle_is
           ∙ one_more c.loop-row.bundle w.extend.result (bundle_in m (take i rows)) (part_in m row) (piece_of w.in-Some.culm) member c.loop-row.invariant
           w.extend.ensures w.in-Some.ensures
-      | in-default w ↦
+      | in_default w ↦
           ap (λ b. as_question b member) w.bundle_is
-          ∙ none_more c.loop-row.bundle (bundle_in m (take i rows)) (part_in m row) member c.loop-row.invariant w.in-default.ensures
+          ∙ none_more c.loop-row.bundle (bundle_in m (take i rows)) (part_in m row) member c.loop-row.invariant w.in_default.ensures
     ])
 
 pub returns : goal.returns
