@@ -1,5 +1,5 @@
 use Rattle.std.proofs.Common.{◌≡◌, ℕ, zero, suc, ◌+◌, List, [], ◌∷◌, length, refl, ap, arith}
-use Rattle.line_format.specs.Lines.{Placed, field, placed_from, placed_first}
+use Rattle.line_format.specs.Lines.{field, placed_from, placed_first}
 
 -- as many as there are
 pub all_first : (n k : ℕ) (texts : List (List ℕ)) → length texts ≡ n → placed_from k texts ≡ placed_first n k texts

@@ -1,5 +1,5 @@
 -- The call that a line asks for: its fields from left to right, each a number, else refusal 4. Assumes nothing.
-use Rattle.std.specs.Prelude.{ℕ, ◌+◌, ◌-◌, cond, List, [], ◌∷◌, length, ℤ, Some, None, Ok, Err, Option, Result, ◌==◌, slice_index, slice_index_or}
+use Rattle.std.specs.Prelude.{ℕ, ◌+◌, ◌-◌, cond, List, [], length, ℤ, Some, None, Ok, Err, Option, Result, ◌==◌, slice_index, slice_index_or}
 use Rattle.quantities.specs.Durations.{duration_of}
 use Rattle.quantities.specs.Held.{and_then}
 use Rattle.quantities.specs.declared.class.RawFactors.{RawFactors}

@@ -3,7 +3,7 @@ use Rattle.std.proofs.Common.{◌≡◌, ℕ, ◌+◌, ◌-◌, ◌<◌, ◌≤�
 use Rattle.std.proofs.lemmas.List.{append_assoc, append-nil, take-take, get_or-take, get_or-drop}
 use Rattle.line_service.specs.Manner.{Manner, run, answers}
 use Rattle.line_service.specs.Front.{front_of}
-use Rattle.line_service.specs.Lines.{line_end, ended, unended, last_line, lines_of, Unbroken}
+use Rattle.line_service.specs.Lines.{line_end, ended, unended, last_line, Unbroken}
 use Rattle.line_service.specs.Feeding.{Took, Joins, Ends}
 use Rattle.line_service.proofs.Lines.{ended_append, unended_append, plain_ended, plain_unended, take_front, run_append, answers_append, same_next, same_said, same_run, same_answers, same_unended}
 

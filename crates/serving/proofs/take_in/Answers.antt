@@ -1,4 +1,4 @@
-use Rattle.std.proofs.Common.{◌≡◌, ℕ, ◌<◌, false, List, [], ◌∷◌, ◌++◌, length, is_err, vec_items, sym, refl, ap, ◌∙◌, arith, rules}
+use Rattle.std.proofs.Common.{◌≡◌, ℕ, ◌<◌, false, List, [], ◌∷◌, ◌++◌, length, is_err, vec_items, refl, ap, ◌∙◌, arith, rules}
 use Rattle.line_service.specs.Feeding.{part}
 use Rattle.line_service.specs.Front.{bytes_of}
 use Rattle.line_service.specs.Lines.{ended}

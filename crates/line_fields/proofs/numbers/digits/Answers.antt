@@ -4,11 +4,11 @@ use Rattle.line_fields.specs.Numerals.{digits_from}
 use Rattle.line_fields.proofs.Tens.{ten_more, ten_le}
 use Rattle.line_fields.proofs.numbers.digits.Goals as goal
 
-pub overflow-mul-value : goal.overflow-mul-value
-overflow-mul-value c = let t = ten_le c.loop-byte.byte-index 6 (omega arith) in search rules
+pub overflow_mul-value : goal.overflow_mul-value
+overflow_mul-value c = let t = ten_le c.loop-byte.byte-index 6 (omega arith) in search rules
 
-pub overflow-add-value : goal.overflow-add-value
-overflow-add-value c = let t = ten_le c.loop-byte.byte-index 6 (omega arith) in search rules
+pub overflow_add-value : goal.overflow_add-value
+overflow_add-value c = let t = ten_le c.loop-byte.byte-index 6 (omega arith) in search rules
 
 pub returns-then-byte-lt-ZERO : goal.returns-then-byte-lt-ZERO
 returns-then-byte-lt-ZERO c = search (rules, at_drop_more (digits_from c.loop-byte.value))

@@ -1,8 +1,6 @@
-use Rattle.std.proofs.Common.{◌≡◌, ◌+◌, false, [], ◌++◌, length, take, is_err, vec_items, sym, refl, ap, ◌∙◌, arith, rules}
+use Rattle.std.proofs.Common.{◌≡◌, ◌+◌, false, [], ◌++◌, length, take, is_err, sym, refl, ap, ◌∙◌, arith, rules}
 use Rattle.std.proofs.lemmas.List.{take_all}
 use Rattle.line_service.specs.Feeding.{count}
-use Rattle.line_service.specs.Lines.{ended}
-use Rattle.line_service.specs.Manner.{answers}
 use Rattle.line_service.specs.Whole.{glued}
 use Rattle.line_service.proofs.Steps.{took_none, took_same}
 use Rattle.line_service.proofs.Wholes.{glued_front, glued_more, part_all, answered_front, answered_end}
@@ -26,8 +24,8 @@ loop-chunk-preserved g c =
       search rules,
     )
 
-pub returns-then-is-err : goal.returns-then-is-err
-returns-then-is-err g c =
+pub returns-then-is_err : goal.returns-then-is_err
+returns-then-is_err g c =
     let m = g.R.Responder.manner in
     let i = c.loop-chunk.chunk-index in
     let chunks = c.args.chunks.now in

@@ -6,8 +6,8 @@ use Rattle.line_service.specs.Manner.{run, answers}
 use Rattle.line_service.proofs.Steps.{ends, last_some}
 use Rattle.line_service.proofs.service.LineService.finish.Goals as goal
 
-pub returns-in-err-end-line : goal.returns-in-err-end-line
-returns-in-err-end-line g c = record {
+pub returns-in_err-end_line : goal.returns-in_err-end_line
+returns-in_err-end_line g c = record {
   after = search rules;
   front = search rules;
   said = search (rules, append-nil);
@@ -16,8 +16,8 @@ returns-in-err-end-line g c = record {
   wanting = search rules;
 }
 
-pub returns-in-ok-end-line : goal.returns-in-ok-end-line
-returns-in-ok-end-line g c =
+pub returns-in_ok-end_line : goal.returns-in_ok-end_line
+returns-in_ok-end_line g c =
     let m = g.R.Responder.manner in
     let s = g.R.Responder.state c.args.self.now.responder in
     let f = bytes_of c.args.self.now.front in
