@@ -1,5 +1,5 @@
 -- The clauses as they are written, and on whole numbers over common denominators. Assumes nothing.
-use Rattle.std.proofs.Common.{◌≡◌, ℕ, ◌+◌, ◌-◌, ◌*◌, ◌<◌, ◌≤◌, sym, ap, mul-le-mul_right, lt_of_mul-lt-mul_right, mul-le-mul_left, mul-lt-mul_of_pos_right, mul-pos, le_of_mul-le-mul_right, arith}
+use Rattle.std.proofs.Common.{◌≡◌, ℕ, ◌-◌, ◌*◌, ◌<◌, ◌≤◌, sym, ap, mul-le-mul_right, lt_of_mul-lt-mul_right, mul-le-mul_left, mul-lt-mul_of_pos_right, mul-pos, le_of_mul-le-mul_right, arith}
 use native.Mathlib.Nat.{mul-sub, le_of_mul-le-mul_left}
 use Rattle.exact.specs.Fraction.{Fraction}
 use Rattle.exact.specs.Laws.{Positive}

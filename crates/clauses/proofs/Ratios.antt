@@ -1,11 +1,11 @@
 -- Each clause turns on the ratios of forces to capacities, and what follows from that for any clause that does. Assumes nothing.
-use Rattle.std.proofs.Common.{◌≡◌, ℕ, ◌*◌, ◌<◌, ◌≤◌, ℤ, pos, ◌*ℤ◌, nat_abs, ◌<ℤ◌, mul-le-mul_right, mul-le-mul, mul-pos, le_of_mul-le-mul_right, arith}
-use Rattle.exact.specs.Fraction.{Fraction, over, AtMost, times, quotient}
+use Rattle.std.proofs.Common.{◌≡◌, ℕ, ◌*◌, ◌<◌, ℤ, pos, ◌*ℤ◌, nat_abs, mul-le-mul_right, mul-le-mul, mul-pos, le_of_mul-le-mul_right, arith}
+use Rattle.exact.specs.Fraction.{Fraction, over, AtMost, times}
 use Rattle.exact.specs.Laws.{Positive}
-use Rattle.exact.specs.Signed.{Signed, size}
+use Rattle.exact.specs.Signed.{size}
 use Rattle.design_code.specs.Loads.{Load, Proper, SameLoad, GrowsLoad}
 use Rattle.clauses.specs.Clauses.{Capacities, Bending, Shear, Tension, Compression, TensionMet, CompressionMet}
-use Rattle.clauses.specs.Laws.{PositiveAll, AtMostAll, times_all, times_load, UsesLess, Lighter, Clause, Both, TurnsOnRatios, ClauseLaws}
+use Rattle.clauses.specs.Laws.{PositiveAll, AtMostAll, times_all, times_load, UsesLess, Lighter, Clause, TurnsOnRatios, ClauseLaws}
 use Rattle.clauses.proofs.Algebra.{tension_transfer, compression_transfer}
 use Rattle.clauses.proofs.Literally.{tension_whole, tension_literal, compression_whole, compression_literal}
 use Rattle.clauses.proofs.Signs.{in_tension, of_tension, in_compression, of_compression, some_compression, grown_tension, grown_compression, same_grows, itself_grows, scaled_size, scaled_below, scaled_above, unscaled_below, unscaled_above}

@@ -1,9 +1,8 @@
 -- Axial forces by their sign. Assumes nothing.
 use Rattle.std.proofs.Common.{◌≡◌, ℕ, zero, suc, ◌*◌, ◌<◌, ◌≤◌, ℤ, pos, negsuc, ◌*ℤ◌, neg_ℤ, nat_abs, ◌≤ℤ◌, ◌<ℤ◌, refl, mul-pos, arith}
 use Rattle.std.proofs.lemmas.Int.{ints}
-use Rattle.exact.specs.Fraction.{Fraction, over, AtMost, times}
-use Rattle.exact.specs.Laws.{Positive}
-use Rattle.exact.specs.Signed.{Signed, size, times_signed, SameSigned, Grows}
+use Rattle.exact.specs.Fraction.{AtMost}
+use Rattle.exact.specs.Signed.{Signed, size, SameSigned, Grows}
 use Rattle.clauses.specs.Clauses.{InTension, InCompression}
 
 pub above : (n : ℕ) → pos 0 <ℤ pos (suc n)

@@ -1,8 +1,8 @@
 -- What every clause keeps, because it turns only on the ratios of forces to capacities. Assumes nothing.
-use Rattle.std.specs.Prelude.{ℕ, ◌<◌, ℤ, pos, ◌<ℤ◌}
+use Rattle.std.specs.Prelude.{pos, ◌<ℤ◌}
 use Rattle.exact.specs.Fraction.{Fraction, AtMost, times, quotient}
 use Rattle.exact.specs.Laws.{Positive}
-use Rattle.exact.specs.Signed.{Signed, size, times_signed}
+use Rattle.exact.specs.Signed.{size, times_signed}
 use Rattle.design_code.specs.Loads.{Load, Proper, SameLoad, GrowsLoad}
 use Rattle.clauses.specs.Clauses.{Capacities}
 

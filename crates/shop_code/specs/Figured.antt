@@ -1,25 +1,20 @@
 -- The figures as capacities: at most the exact ones at the lower p, which at the upper p are at most 1.001 times them. Assumes nothing.
-use Rattle.std.specs.Prelude.{ℕ, zero, suc, ◌*◌, ◌<◌, ◌≤◌, List, length, ℤ, pos, negsuc}
-use Rattle.std.proofs.Common.{arith}
-use Rattle.std.proofs.lemmas.Int.{ints}
-use Rattle.exact.specs.Fraction.{Fraction, over, AtMost, times}
+use Rattle.std.specs.Prelude.{◌<◌, List, length}
+use Rattle.exact.specs.Fraction.{Fraction, over}
 use Rattle.exact.specs.Laws.{Positive}
 use Rattle.exact.specs.Pi.{lower_pi, upper_pi}
 use Rattle.exact.specs.Rounding.{Figured}
-use Rattle.exact.specs.Signed.{Signed, times_signed, Grows}
 use Rattle.quantities.specs.declared.basis.DesignBasis.{DesignBasis}
-use Rattle.quantities.specs.declared.forces.Forces.{Forces}
 use Rattle.quantities.specs.declared.readings.Readings.{Readings}
 use Rattle.capacity.specs.Figures.{moment_figure, shear_figure, tension_figure, crushing_figure, buckling_figure}
 use Rattle.capacity.specs.Strengths.{factored_strength}
 use Rattle.capacity.proofs.Allowable.{strength_lies}
 use Rattle.capacity.proofs.Positives.{moment_positive, shear_positive, tension_positive, crushing_positive, buckling_positive, figure_some}
 use Rattle.capacity.proofs.Rounded.{moment_figured, shear_figured, axial_figured, buckling_figured}
-use Rattle.design_code.specs.Loads.{recorded, grown, grown_size, grown_axial, Proper, GrowsLoad}
 use Rattle.design_code.specs.Meaning.{Bundled}
 use Rattle.clauses.specs.Clauses.{Capacities}
-use Rattle.clauses.specs.Laws.{PositiveAll, AtMostAll, times_all, times_load, Clause, ClauseLaws}
-use Rattle.clauses.proofs.Ratios.{scaled_all, scaled_proper}
+use Rattle.clauses.specs.Laws.{PositiveAll, AtMostAll, times_all}
+use Rattle.clauses.proofs.Growing.{growth, upper_positive, moment_scale_some, force_scale_some, near}
 use Rattle.shop_code.specs.Shop.{capacities_of}
 
 -- the figures over their scales
@@ -31,16 +26,6 @@ figures_of cs b = record {
   crushing = over (crushing_figure cs b) 65536;
   buckling = over (buckling_figure cs b) 65536;
 }
-
--- 1.001
-abbrev pub growth : Fraction
-growth = over 1001 1000
-
-pub growth_positive : Positive growth
-growth_positive = record { num = omega arith; den = omega arith }
-
-upper_positive : Positive upper_pi
-upper_positive = record { num = omega arith; den = omega arith }
 
 pub capacities_positive : (p : Fraction) → Positive p → (cs : List Readings) (b : DesignBasis) → 0 < length cs → PositiveAll (capacities_of p cs b)
 capacities_positive p pp cs b some = record {
@@ -71,9 +56,6 @@ module _ (cs : List Readings) (b : DesignBasis) (n : Bundled cs) where
     buckling = bucklings_figured.below;
   }
 
-  near : (f s : ℕ) (low high : Fraction) → Figured f s low high → AtMost high (times growth (over f s))
-  near f s low high h = omega (arith, h.near)
-
   pub figures_near : AtMostAll (capacities_of upper_pi cs b) (times_all growth (figures_of cs b))
   figures_near = record {
     moment = near (moment_figure cs b) 32768 _ _ (moment_figured cs b);
@@ -87,36 +69,9 @@ module _ (cs : List Readings) (b : DesignBasis) (n : Bundled cs) where
   figures_positive =
       let u = capacities_positive upper_pi upper_positive cs b n.some in
       record {
-        moment = record { num = figure_some (moment_figure cs b) 32768 _ _ (omega arith) u.moment (moment_figured cs b); den = omega arith };
-        shear = record { num = figure_some (shear_figure cs b) 65536 _ _ (omega arith) u.shear (shear_figured cs b); den = omega arith };
-        tension = record { num = figure_some (tension_figure cs b) 65536 _ _ (omega arith) u.tension tension_figured; den = omega arith };
-        crushing = record { num = figure_some (crushing_figure cs b) 65536 _ _ (omega arith) u.crushing crushing_figured; den = omega arith };
-        buckling = record { num = figure_some (buckling_figure cs b) 65536 _ _ (omega arith) u.buckling bucklings_figured; den = omega arith };
+        moment = record { num = figure_some (moment_figure cs b) 32768 _ _ moment_scale_some u.moment (moment_figured cs b); den = moment_scale_some };
+        shear = record { num = figure_some (shear_figure cs b) 65536 _ _ force_scale_some u.shear (shear_figured cs b); den = force_scale_some };
+        tension = record { num = figure_some (tension_figure cs b) 65536 _ _ force_scale_some u.tension tension_figured; den = force_scale_some };
+        crushing = record { num = figure_some (crushing_figure cs b) 65536 _ _ force_scale_some u.crushing crushing_figured; den = force_scale_some };
+        buckling = record { num = figure_some (buckling_figure cs b) 65536 _ _ force_scale_some u.buckling bucklings_figured; den = force_scale_some };
       }
-
-pub recorded_proper : (f : Forces) → Proper (recorded f)
-recorded_proper f = record { axial = omega arith; shear = omega arith; moment = omega arith }
-
-size_den : (n : ℕ) → 0 < (grown_size n).den
-size_den zero = omega arith
-size_den (suc n) = omega arith
-
-axial_den : (z : ℤ) → 0 < (grown_axial z).den
-axial_den (pos n) = size_den n
-axial_den (negsuc n) = size_den (suc n)
-
-pub grown_proper : (f : Forces) → Proper (grown f)
-grown_proper f = record { axial = axial_den f.axial.newtons; shear = size_den f.shear.value; moment = size_den f.moment.value }
-
-size_grows : (n : ℕ) → AtMost (times growth (over n 1)) (grown_size n)
-size_grows zero = omega arith
-size_grows (suc n) = omega arith
-
-axial_grows : (z : ℤ) → Grows (times_signed growth (record { num = z; den = 1 })) (grown_axial z)
-axial_grows (pos zero) = record { up = λ h. omega (arith, ints); down = λ h. omega (arith, ints) }
-axial_grows (pos (suc n)) = record { up = λ h. omega (arith, ints); down = λ h. omega (arith, ints) }
-axial_grows (negsuc n) = record { up = λ h. omega (arith, ints); down = λ h. omega (arith, ints) }
-
-pub grown_grows : (f : Forces) → GrowsLoad (times_load growth (recorded f)) (grown f)
-grown_grows f =
-    record { axial = axial_grows f.axial.newtons; shear = size_grows f.shear.value; moment = size_grows f.moment.value }

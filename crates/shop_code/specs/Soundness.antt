@@ -1,9 +1,7 @@
 -- A code that decides one clause at the figures is sound, for every clause that keeps the laws. Assumes nothing.
-use Rattle.std.specs.Prelude.{◌≡◌, ℕ, ◌*◌, ◌<◌, ◌≤◌, List}
-use Rattle.std.proofs.Common.{sym, arith}
+use Rattle.std.specs.Prelude.{◌≡◌, ℕ, ◌*◌, ◌≤◌, List}
+use Rattle.std.proofs.Common.{sym, ap}
 use Rattle.exact.specs.Deciding.{at_most}
-use Rattle.exact.specs.Fraction.{Fraction}
-use Rattle.exact.specs.Laws.{Positive}
 use Rattle.exact.specs.Pi.{lower_pi, upper_pi}
 use Rattle.quantities.specs.declared.basis.DesignBasis.{DesignBasis}
 use Rattle.quantities.specs.declared.forces.Forces.{Forces}
@@ -11,29 +9,31 @@ use Rattle.quantities.specs.declared.readings.Readings.{Readings}
 use Rattle.capacity.specs.Figures.{moment_figure, shear_figure, tension_figure, crushing_figure, buckling_figure}
 use Rattle.design_code.specs.Loads.{recorded, grown}
 use Rattle.design_code.specs.Meaning.{Bundled, Sound}
+use Rattle.design_code.specs.declared.verdict.Verdict.{Verdict}
 use Rattle.design_code.specs.declared.verdict.Verdict.TheVariants.{Met, Refused}
 use Rattle.design_code.specs.Joining.{apart}
 use Rattle.clauses.specs.Clauses.{Bending, Shear, Tension, Compression}
 use Rattle.clauses.specs.Laws.{Clause, ClauseLaws, Both, times_all, times_load}
 use Rattle.clauses.proofs.Ratios.{bending_turns, shear_turns, tension_turns, compression_turns, laws_from_ratios, scaled_all, scaled_proper}
+use Rattle.clauses.proofs.Growing.{growth, growth_positive, lower_positive, upper_positive, recorded_proper, grown_proper, grown_grows}
+use Rattle.clauses.proofs.Sizes.{bending_size, shear_size}
 use Rattle.shop_code.specs.Deciding.{verdict_by, PullsWithin, PressesWithin, pulls_within?, presses_within?}
 use Rattle.shop_code.specs.Shop.{capacities_of, one_clause, bending_meaning, shear_meaning, tension_meaning, compression_meaning}
 use Rattle.shop_code.specs.Decided.{tension_decided, compression_decided}
-use Rattle.shop_code.specs.Figured.{figures_of, growth, growth_positive, capacities_positive, figures_below, figures_near, figures_positive, recorded_proper, grown_proper, grown_grows}
+use Rattle.shop_code.specs.Figured.{figures_of, capacities_positive, figures_below, figures_near, figures_positive}
 
 met_says : {P : Type 0} (k : ℕ) (d : Dec P) → verdict_by k d ≡ Met → P
 met_says k (yes p) e = p
 met_says k (no g) e = apart k e
 
+-- the number of a refusal
+abbrev refusal : Verdict → ℕ
+refusal Met = 0
+refusal (Refused k) = k
+
 refused_says : {P : Type 0} (k j : ℕ) (d : Dec P) → verdict_by k d ≡ Refused j → (j ≡ k) × (P → ⊥)
 refused_says k j (yes p) e = apart j (sym e)
-refused_says k j (no g) e = (cc, g)
-
-lower_positive : Positive lower_pi
-lower_positive = record { num = omega arith; den = omega arith }
-
-upper_positive : Positive upper_pi
-upper_positive = record { num = omega arith; den = omega arith }
+refused_says k j (no g) e = (sym (ap refusal e), g)
 
 module _ (P : Clause) (laws : ClauseLaws P) (cs : List Readings) (b : DesignBasis) (f : Forces) (n : Bundled cs) where
   -- what the figures bear, the exact capacities bear
@@ -71,12 +71,12 @@ module _ (k : ℕ) (P : Clause) (laws : ClauseLaws P) (Q : List Readings → Des
 pub bending_sound : Sound bending_meaning
 bending_sound =
     one_clause_sound 1 Bending (laws_from_ratios _ bending_turns) (λ cs b f. f.moment.value * 32768 ≤ moment_figure cs b)
-    (λ cs b f. at_most (f.moment.value * 32768) (moment_figure cs b)) (λ cs b f n. (λ h. omega arith, λ h. omega arith))
+    (λ cs b f. at_most (f.moment.value * 32768) (moment_figure cs b)) (λ cs b f n. bending_size f.moment.value (moment_figure cs b))
 
 pub shear_sound : Sound shear_meaning
 shear_sound =
     one_clause_sound 2 Shear (laws_from_ratios _ shear_turns) (λ cs b f. f.shear.value * 65536 ≤ shear_figure cs b)
-    (λ cs b f. at_most (f.shear.value * 65536) (shear_figure cs b)) (λ cs b f n. (λ h. omega arith, λ h. omega arith))
+    (λ cs b f. at_most (f.shear.value * 65536) (shear_figure cs b)) (λ cs b f n. shear_size f.shear.value (shear_figure cs b))
 
 pub tension_sound : Sound tension_meaning
 tension_sound =

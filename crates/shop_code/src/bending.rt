@@ -4,7 +4,7 @@ ghost use Rattle.shop_code.specs.Deciding.{verdict_by};
 ghost use Rattle.shop_code.specs.Figures.{moment_units};
 ghost use Rattle.shop_code.specs.Shop.{bending_meaning};
 ghost use Rattle.shop_code.specs.Soundness.{bending_sound};
-ghost use Rattle.std.proofs.Common.{ap₂, rules};
+ghost use Rattle.std.proofs.Common.{ap₂, refl};
 ghost use Rattle.capacity.specs.Figures.{moment_figure};
 ghost use Rattle.shop_code.specs.Alike.{units_same};
 
@@ -34,7 +34,7 @@ impl DesignCode for BendingCode {
 
     ghost like = { λ s x y cs b. units_same _ _ (ap₂ moment_figure cs b) };
 
-    ghost ruled = { Prim.search rules };
+    ghost ruled = { λ s x f. refl };
 
     fn figures(&self, bundle: &Bundle) -> MomentFigure {
         moment_units(bundle)

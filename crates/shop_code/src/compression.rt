@@ -3,7 +3,7 @@ ghost use Rattle.shop_code.specs.Deciding.{verdict_by, PressesWithin, presses_wi
 ghost use Rattle.shop_code.specs.Figures.{compression_figures, moment_units, buckling_units, crushing_units};
 ghost use Rattle.shop_code.specs.Shop.{compression_meaning};
 ghost use Rattle.shop_code.specs.Soundness.{compression_sound};
-ghost use Rattle.std.proofs.Common.{ap₂, rules};
+ghost use Rattle.std.proofs.Common.{ap₂, refl};
 ghost use Rattle.capacity.specs.Figures.{moment_figure, buckling_figure, crushing_figure};
 ghost use Rattle.shop_code.specs.Alike.{units_same};
 
@@ -54,7 +54,7 @@ impl DesignCode for CompressionCode {
         let c : crushing_units x ≡ crushing_units y = units_same _ _ (ap₂ crushing_figure cs b) in
         λ i. record { moment = m i; buckling = e i; crushing = c i } };
 
-    ghost ruled = { Prim.search rules };
+    ghost ruled = { λ s x f. refl };
 
     fn figures(&self, bundle: &Bundle) -> CompressionFigures {
         CompressionFigures {

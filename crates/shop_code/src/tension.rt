@@ -3,7 +3,7 @@ ghost use Rattle.shop_code.specs.Deciding.{verdict_by, PullsWithin, pulls_within
 ghost use Rattle.shop_code.specs.Figures.{tension_figures, moment_units, tension_units};
 ghost use Rattle.shop_code.specs.Shop.{tension_meaning};
 ghost use Rattle.shop_code.specs.Soundness.{tension_sound};
-ghost use Rattle.std.proofs.Common.{ap₂, rules};
+ghost use Rattle.std.proofs.Common.{ap₂, refl};
 ghost use Rattle.capacity.specs.Figures.{moment_figure, tension_figure};
 ghost use Rattle.shop_code.specs.Alike.{units_same};
 
@@ -53,7 +53,7 @@ impl DesignCode for TensionCode {
         let t : tension_units x ≡ tension_units y = units_same _ _ (ap₂ tension_figure cs b) in
         λ i. record { moment = m i; tension = t i } };
 
-    ghost ruled = { Prim.search rules };
+    ghost ruled = { λ s x f. refl };
 
     fn figures(&self, bundle: &Bundle) -> TensionFigures {
         TensionFigures {

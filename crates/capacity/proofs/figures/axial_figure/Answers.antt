@@ -5,8 +5,8 @@ use Rattle.capacity.specs.Terms.{ring_area}
 use Rattle.capacity.proofs.Rounded.{area_small}
 use Rattle.capacity.proofs.figures.axial_figure.Goals as goal
 
-pub axial-share-requires : goal.axial-share-requires
-axial-share-requires c =
+pub axial_share-requires : goal.axial_share-requires
+axial_share-requires c =
     let b = c.args.bundle.now in
     let e = c.total.ensures ∙ ap (sum_by ring_area) c.culms.ensures in
     omega (arith, area_small (culms_of b) b.basis (culms_few b))

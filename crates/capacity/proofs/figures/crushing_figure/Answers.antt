@@ -13,11 +13,11 @@ pub returns : goal.returns
 returns c =
     let b = c.args.bundle.now in
     let k = factored_strength (culms_of b) b.basis b.basis.grade.compression.value in
-    let e = c.axial-figure.ensures.value in
+    let e = c.axial_figure.ensures.value in
     record {
       value = e;
       figured =
           subst (λ n. Figured n 65536 (crushing_capacity lower_pi (culms_of b) b.basis) (crushing_capacity upper_pi (culms_of b) b.basis)) (sym e)
           (axial_figured k (culms_of b) (strength_lies (culms_of b) b.basis b.basis.grade.compression).from (culms_some b));
-      bound = c.axial-figure.ensures.bound;
+      bound = c.axial_figure.ensures.bound;
     }

@@ -8,6 +8,6 @@ use Rattle.capacity.proofs.figures.moment_figure.Goals as goal
 pub returns : goal.returns
 returns c =
     let b = c.args.bundle.now in
-    let e = c.total.ensures ∙ ap₂ (λ k cs. sum_by (moment_share k) cs) c.factored-strength-strength.ensures c.culms.ensures in
+    let e = c.total.ensures ∙ ap₂ (λ k cs. sum_by (moment_share k) cs) c.factored_strength-strength.ensures c.culms.ensures in
     let t = carried e (moment_figured (culms_of b) b.basis) (moment_small (culms_of b) b.basis (culms_few b)) in
     record { value = e; figured = t.0; bound = t.1 }

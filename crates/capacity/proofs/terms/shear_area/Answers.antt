@@ -6,9 +6,9 @@ pub returns : goal.returns
 returns c =
     let w : c.args.culm.now.wall.value ≤ 299 = omega arith in
     record {
-      num = ap (λ n. 3 * c.args.culm.now.wall.value * n) c.second-moment.ensures.value;
-      den = ap (λ n. 8 * n) c.cubes-apart.ensures.value;
-      bound = omega (arith, mul-le-mul w c.second-moment.ensures.bound);
+      num = ap (λ n. 3 * c.args.culm.now.wall.value * n) c.second_moment.ensures.value;
+      den = ap (λ n. 8 * n) c.cubes_apart.ensures.value;
+      bound = omega (arith, mul-le-mul w c.second_moment.ensures.bound);
       some = omega (arith, (cubes_beside c.args.culm.now).some);
       few = omega arith;
     }

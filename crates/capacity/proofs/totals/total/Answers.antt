@@ -8,7 +8,7 @@ loop-culm-preserved g c =
     let amount : Readings → ℕ = g.P.Part.amount c.args.part.now in
     let more = sum_by_more amount c.args.culms.now c.loop-culm.culm-index c.culm-item.result c.loop-culm-test.true in
     let item = ap amount c.culm-item.is in
-    (omega (arith, more, item, c.of-culm-sum.ensures.value, c.loop-culm.invariant.0), omega (arith, c.loop-culm.invariant.1))
+    (omega (arith, more, item, c.of_culm-sum.ensures.value, c.loop-culm.invariant.0), omega (arith, c.loop-culm.invariant.1))
 
 pub returns : goal.returns
 returns g c =
