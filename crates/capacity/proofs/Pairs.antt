@@ -1,7 +1,7 @@
 -- A figure gives a told pair. Assumes nothing.
 use Rattle.std.proofs.Common.{◌≡◌, ℕ, ◌+◌, ◌*◌, ◌/◌, ◌<◌, ◌≤◌, List, sym, subst, mul-le-mul_right, div-mul-le_self, arith}
 use native.Mathlib.Nat.{lt-div-mul-add, le_of_mul-le-mul_left, lt_of_mul-lt-mul_left}
-use Rattle.exact.specs.Fraction.{Fraction, over, whole, AtMost}
+use Rattle.exact.specs.Fraction.{Fraction, whole, AtMost}
 use Rattle.exact.specs.Rounding.{Figured}
 use Rattle.quantities.specs.declared.basis.DesignBasis.{DesignBasis}
 use Rattle.quantities.specs.declared.readings.Readings.{Readings}

@@ -1,5 +1,5 @@
 -- Every capacity and every figure of a bundle is above 0, and every figure is small. Assumes nothing.
-use Rattle.std.proofs.Common.{ℕ, ◌+◌, ◌*◌, ◌^◌, ◌<◌, ◌≤◌, List, [], ◌∷◌, length, sum_by, subst, lt_of_mul-lt-mul_right, mul-pos, arith}
+use Rattle.std.proofs.Common.{ℕ, ◌*◌, ◌^◌, ◌<◌, ◌≤◌, List, [], ◌∷◌, length, sum_by, subst, lt_of_mul-lt-mul_right, mul-pos, arith}
 use Rattle.exact.specs.Fraction.{Fraction, over, times, total_by}
 use Rattle.exact.specs.Laws.{Positive}
 use Rattle.exact.specs.Rounding.{Figured}
@@ -10,7 +10,7 @@ use Rattle.capacity.specs.Figures.{tension_figure, crushing_figure, buckling_fig
 use Rattle.capacity.specs.Strengths.{factored_strength, factored_modulus}
 use Rattle.capacity.specs.Terms.{ring_area, second_moment, section_modulus, shear_area}
 use Rattle.capacity.proofs.Allowable.{strength_lies, modulus_lies}
-use Rattle.capacity.proofs.Rounded.{area_small, axial_small, straightness_lies, second_moment_lies, sizes, buckling_small, buckling_is}
+use Rattle.capacity.proofs.Rounded.{area_small, axial_small, straightness_lies, sizes, buckling_small, buckling_is}
 use Rattle.capacity.proofs.ShareSizes.{sum_large}
 use Rattle.capacity.proofs.Sizes.{area_large, second_moment_large, cubes_beside}
 

@@ -1,7 +1,7 @@
 -- Each figure stands for its capacity from below, and how large it can be. Assumes nothing.
-use Rattle.std.proofs.Common.{◌≡◌, ℕ, ◌+◌, ◌*◌, ◌/◌, ◌^◌, ◌<◌, ◌≤◌, min, List, [], ◌∷◌, length, fold, sum_by, sym, subst, ap₂, mul-le-mul, mul-pos, arith}
+use Rattle.std.proofs.Common.{◌≡◌, ℕ, ◌*◌, ◌/◌, ◌^◌, ◌<◌, ◌≤◌, min, List, [], ◌∷◌, length, fold, sum_by, sym, subst, ap₂, mul-le-mul, arith}
 use Rattle.std.proofs.lemmas.Nat.{div_below, le-div}
-use Rattle.exact.specs.Fraction.{Fraction, over, whole, times}
+use Rattle.exact.specs.Fraction.{Fraction, over}
 use Rattle.exact.specs.Rounding.{Figured}
 use Rattle.exact.proofs.Rounding.{figured_sum, figured_once}
 use Rattle.quantities.specs.declared.basis.DesignBasis.{DesignBasis}

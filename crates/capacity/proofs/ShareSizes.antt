@@ -1,10 +1,10 @@
 -- How large and how small the shares of a culm are. Assumes nothing.
-use Rattle.std.proofs.Common.{◌≡◌, ℕ, ◌+◌, ◌*◌, ◌/◌, ◌^◌, ◌<◌, ◌≤◌, List, [], ◌∷◌, length, sum_by, ◌∙◌, ap₂, mul-le-mul_right, mul-le-mul, arith}
+use Rattle.std.proofs.Common.{◌≡◌, ℕ, ◌*◌, ◌/◌, ◌^◌, ◌<◌, ◌≤◌, List, [], ◌∷◌, length, sum_by, ◌∙◌, ap₂, mul-le-mul_right, mul-le-mul, arith}
 use Rattle.std.proofs.lemmas.List.Sums.{sum_by-cons}
 use Rattle.std.proofs.lemmas.Nat.{div_below, le-div}
 use Rattle.quantities.specs.declared.readings.Readings.{Readings}
 use Rattle.capacity.specs.Shares.{moment_share, shear_share}
-use Rattle.capacity.specs.Terms.{outer_diameter, inner_diameter, ring_area, cubes, second_moment}
+use Rattle.capacity.specs.Terms.{outer_diameter, ring_area, cubes, second_moment}
 use Rattle.capacity.proofs.Sizes.{square_le, cube_le, fourth_le, second_moment_large, cubes_beside}
 
 pub second_moment_small : (c : Readings) → second_moment c ≤ 7988005999 * outer_diameter c

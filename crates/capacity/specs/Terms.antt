@@ -1,6 +1,6 @@
 -- What one culm adds to a bundle, from its readings: outer diameter D, wall δ and inner diameter d = D − 2δ in tenths of a
 -- millimetre. Assumes nothing.
-use Rattle.std.specs.Prelude.{ℕ, ◌+◌, ◌-◌, ◌*◌}
+use Rattle.std.specs.Prelude.{ℕ, ◌-◌, ◌*◌}
 use Rattle.exact.specs.Fraction.{Fraction, over}
 use Rattle.quantities.specs.declared.readings.Readings.{Readings}
 

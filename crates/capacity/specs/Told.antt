@@ -1,5 +1,5 @@
 -- The five capacities by name, and what a told pair says of one. Assumes nothing.
-use Rattle.std.specs.Prelude.{ℕ, ◌+◌, ◌/◌, ◌≤◌, List}
+use Rattle.std.specs.Prelude.{◌+◌, ◌/◌, ◌≤◌, List}
 use Rattle.exact.specs.Fraction.{Fraction, whole, AtMost}
 use Rattle.quantities.specs.declared.basis.DesignBasis.{DesignBasis}
 use Rattle.quantities.specs.declared.readings.Readings.{Readings}

@@ -1,4 +1,4 @@
-use Rattle.std.proofs.Common.{◌≡◌, sum_by, ap, ◌∙◌, arith}
+use Rattle.std.proofs.Common.{sum_by, ap, ◌∙◌, arith}
 use Rattle.quantities.specs.Bundles.{culms_of}
 use Rattle.quantities.proofs.Bundled.{culms_few}
 use Rattle.capacity.specs.Terms.{ring_area}

@@ -1,4 +1,4 @@
-use Rattle.std.proofs.Common.{◌≡◌, ℕ, ◌*◌, ◌/◌, sum_by, sym, ap, ◌∙◌, subst, ap₂, arith}
+use Rattle.std.proofs.Common.{◌≡◌, ℕ, ◌*◌, ◌/◌, sum_by, sym, ap, ◌∙◌, subst, ap₂}
 use Rattle.exact.specs.Rounding.{Figured}
 use Rattle.quantities.specs.Bundles.{culms_of}
 use Rattle.quantities.proofs.Bundled.{culms_some, culms_few}

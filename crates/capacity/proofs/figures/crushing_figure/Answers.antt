@@ -1,4 +1,4 @@
-use Rattle.std.proofs.Common.{◌^◌, ◌<◌, sym, subst}
+use Rattle.std.proofs.Common.{sym, subst}
 use Rattle.exact.specs.Rounding.{Figured}
 use Rattle.quantities.specs.Bundles.{culms_of}
 use Rattle.quantities.proofs.Bundled.{culms_some}
