@@ -1,6 +1,5 @@
-ghost use Rattle.std.specs.Prelude.{◌≡◌, ◌-◌, ◌<◌, [], ◌∷◌};
+ghost use Rattle.std.specs.Prelude.{◌≡◌, ◌-◌, ◌<◌, [], ◌∷◌, refl};
 ghost use Rattle.keyed_table_samples.specs.Coins.{coin_number};
-ghost use Rattle.std.proofs.Common.{rules};
 
 use keyed_table::change::Change;
 use keyed_table::{Numbered, Table};
@@ -28,7 +27,7 @@ pub struct Wear {
 impl Change<Coin> for Wear {
     ghost does = { λ wear coin. record { number = coin.number; worth = coin.worth - wear.by } };
 
-    ghost numbers = { Prim.search rules };
+    ghost numbers = { λ wear coin. refl };
 
     fn done(&self, coin: Coin) -> Coin {
         Coin {

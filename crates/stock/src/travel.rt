@@ -1,5 +1,5 @@
 ghost use Rattle.stock.specs.Rows.{travelled};
-ghost use Rattle.std.proofs.Common.{rules};
+ghost use Rattle.std.specs.Prelude.{refl};
 
 use crate::event::{Event, meet, placed};
 use crate::row::CulmRow;
@@ -14,7 +14,7 @@ pub struct Travel {
 impl Change<CulmRow> for Travel {
     ghost does = { λ s. travelled s.event };
 
-    ghost numbers = { Prim.search rules };
+    ghost numbers = { λ travel row. refl };
 
     fn done(&self, row: CulmRow) -> CulmRow {
         let mut place = row.culm.place;
