@@ -1,7 +1,7 @@
 -- The order of fractions. Assumes nothing.
-use Rattle.std.proofs.Common.{◌≡◌, ℕ, ◌+◌, ◌-◌, ◌*◌, ◌<◌, ◌≤◌, List, [], ◌∷◌, sum_by, refl, ap, mul-le-mul_right, mul-le-mul, lt_of_not-le, le_of_mul-le-mul_right, arith}
+use Rattle.std.proofs.Common.{◌≡◌, ℕ, ◌+◌, ◌-◌, ◌*◌, ◌<◌, List, [], ◌∷◌, sum_by, refl, ap, mul-le-mul_right, mul-le-mul, lt_of_not-le, le_of_mul-le-mul_right, arith}
 use Rattle.std.proofs.lemmas.List.Sums.{sum_by-cons}
-use Rattle.exact.specs.Fraction.{Fraction, whole, AtMost, Under, plus, times, minus, quotient, total_by}
+use Rattle.exact.specs.Fraction.{Fraction, whole, AtMost, total_by}
 use Rattle.exact.specs.Laws.{Same, FractionLaws}
 
 pub at_most_trans : (a b c : Fraction) → 0 < b.den → AtMost a b → AtMost b c → AtMost a c

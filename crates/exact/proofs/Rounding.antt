@@ -1,5 +1,5 @@
 -- What rounding down costs. Assumes nothing.
-use Rattle.std.proofs.Common.{ℕ, ◌+◌, ◌*◌, ◌/◌, ◌<◌, ◌≤◌, List, [], ◌∷◌, length, sum_by, mul-le-mul_right, mul-le-mul_left, mul-pos, div-mul-le_self, le_of_mul-le-mul_right, arith}
+use Rattle.std.proofs.Common.{ℕ, ◌+◌, ◌*◌, ◌<◌, ◌≤◌, List, [], ◌∷◌, length, mul-le-mul_right, mul-pos, div-mul-le_self, arith}
 use native.Mathlib.Nat.{lt-div-mul-add, le_of_mul-le-mul_left}
 use Rattle.std.proofs.lemmas.List.Sums.{sum_by-cons}
 use Rattle.exact.specs.Fraction.{Fraction, over, whole, times, total_by, AtMost}

@@ -70,7 +70,7 @@ mod tests {
         assert_eq!(rt; table.insert(coin(20)), Ok(()));
         assert_eq!(rt; table.insert(coin(30)), Ok(()));
         assert_eq!(rt; table.insert(coin(10)), Ok(()));
-        assert_eq!(rt; table.rows(), &[coin(10), coin(20), coin(30)]);
+        assert_eq!(rt; table.rows(), [coin(10), coin(20), coin(30)].as_slice());
         assert_eq!(rt; table.find(20), Some(1));
         assert_eq!(rt; table.find(25), None);
     }

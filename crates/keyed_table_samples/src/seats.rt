@@ -67,7 +67,7 @@ mod tests {
         assert_eq!(rt; table.remove(1), Ok(seat(1)));
         assert_eq!(rt; table.remove(1), Err(Refusal::NoSuchRow));
         assert_eq!(rt; table.insert(seat(3)), Ok(()));
-        assert_eq!(rt; table.rows(), &[seat(2), seat(3)]);
+        assert_eq!(rt; table.rows(), [seat(2), seat(3)].as_slice());
     }
 
     #[test]

@@ -1,5 +1,5 @@
 -- What is held to a decided fact goes on with any proof of it. Assumes nothing.
-use Rattle.std.proofs.Common.{◌≡◌, ℕ, ◌*◌, ℤ, nat_abs, Ok, Err, Result, sym, ap, ◌∙◌}
+use Rattle.std.proofs.Common.{◌≡◌, ℕ, ◌*◌, ℤ, nat_abs, Ok, Result, sym, ap, ◌∙◌}
 use native.Mathlib.Bridge.{le_prop}
 use Rattle.exact.specs.Deciding.{at_most}
 use Rattle.quantities.specs.Held.{hold}

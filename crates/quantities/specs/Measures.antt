@@ -1,6 +1,6 @@
 -- Which measure raw numbers make, or the first fault they have: ranges before stops, stops before the wall's third, and
 -- within each the fields from left to right. Assumes nothing.
-use Rattle.std.specs.Prelude.{ℕ, ◌+◌, ◌*◌, ◌≤◌, ℤ, Ok, Err, Result, unsigned_abs}
+use Rattle.std.specs.Prelude.{ℕ, ◌+◌, ◌*◌, ℤ, Ok, Result, unsigned_abs}
 use Rattle.exact.specs.Deciding.{at_most}
 use Rattle.quantities.specs.Held.{hold, and_then}
 use Rattle.quantities.specs.declared.class.Factors.{Factors}
