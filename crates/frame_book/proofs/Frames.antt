@@ -1,6 +1,6 @@
 -- The rows past the limits, through no call, and through one call and another. Assumes nothing.
 use Rattle.std.proofs.Common.{◌≡◌, ℕ, drop, refl, ◌∙◌, subst}
-use Rattle.stock.specs.Stocks.{room, Beyond}
+use Rattle.stock.specs.Stocks.{Beyond}
 use Rattle.stock.specs.declared.stock.Stock.{Stock}
 use Rattle.frame_book.specs.Books.{Past}
 use Rattle.frame_book.specs.declared.book.Book.{Book}

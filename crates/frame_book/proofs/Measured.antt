@@ -1,5 +1,5 @@
 -- Calls whose measures are in order. Assumes nothing.
-use Rattle.std.proofs.Common.{◌≡◌, ℕ, ℤ, Ok, Err, Result, sym, ap, ◌∙◌}
+use Rattle.std.proofs.Common.{◌≡◌, ℕ, ℤ, Ok, Result, sym, ap, ◌∙◌}
 use Rattle.quantities.specs.Held.{and_then}
 use Rattle.quantities.specs.Measures.{within, readings, forces}
 use Rattle.quantities.specs.declared.fault.MeasureFault.{MeasureFault}

@@ -1,5 +1,5 @@
 -- What a call is told, from the refusal alone. Assumes nothing.
-use Rattle.std.proofs.Common.{◌≡◌, ℕ, Bool, true, false, cond, List, [], ◌∷◌, ℤ, Ok, Err, Result, sym, refl, ap, ◌∙◌}
+use Rattle.std.proofs.Common.{◌≡◌, ℕ, Bool, true, false, cond, List, [], ◌∷◌, ℤ, Ok, Err, Result, refl}
 use Rattle.design_code.specs.Meaning.{Rule}
 use Rattle.quantities.specs.Held.{and_then}
 use Rattle.quantities.specs.Measures.{within, grade, service_class, readings, forces}
@@ -10,11 +10,10 @@ use Rattle.quantities.specs.declared.fault.MeasureFault.TheVariants.{OutOfRange}
 use Rattle.quantities.specs.declared.within.Within.{Within}
 use Rattle.ledger.specs.Ledger.{Ledger, culm_at, member_at}
 use Rattle.ledger.specs.Orders.{Order}
-use Rattle.ledger.specs.Table.{Check, afterwards, accepted_by, answered, told_of, next_of, told, next, told_culm, told_member, checks_of}
+use Rattle.ledger.specs.Table.{Check, afterwards, answered, told_of, next_of, told, next, told_culm, told_member, checks_of}
 use Rattle.ledger.specs.Orders.Order.{define_grade, define_class, add_culm, scrap_culm, open_ticket, check_out, check_in, hold, free, judge, set_member, drop_ticket, strike, load, judge_without, look_culm, look_member}
 use Rattle.ledger.specs.declared.answer.Answer.{Answer}
 use Rattle.ledger.specs.declared.answer.Answer.TheVariants.{Done}
-use Rattle.ledger.specs.declared.call.Call.{Call}
 use Rattle.ledger.specs.declared.call.Call.TheVariants.{DefineGrade, DefineClass, AddCulm, ScrapCulm, Open, CheckOut, CheckIn, Hold, Free, Judge, Set, DropTicket, Strike, Load, JudgeWithout, LookCulm, LookMember}
 use Rattle.frame_book.specs.Calls.{refusal_of, refusal}
 

@@ -1,12 +1,12 @@
 -- How many culms a call adds or takes out, and whose readings a ledger has. Assumes nothing.
-use Rattle.std.proofs.Common.{◌≡◌, ℕ, suc, ◌+◌, Bool, true, false, cond, not, eqb, ◌≢◌, ◌⊎◌, List, [], ◌∷◌, map, length, Some, None, Ok, Err, count_by, Option, Result, sym, refl, ap, ◌∙◌, subst, inl, inr, ⊎_elim, arith}
+use Rattle.std.proofs.Common.{◌≡◌, ℕ, ◌+◌, true, false, cond, eqb, List, [], ◌∷◌, map, length, Some, None, Ok, Err, count_by, Option, Result, sym, refl, ap, ◌∙◌, subst, ⊎_elim, arith}
 use Rattle.std.proofs.lemmas.List.Sums.{sum_by-cons}
-use Rattle.std.proofs.lemmas.Bool.{cond-true, cond-false, cases_eq, ne_eqb, eq-eqb, eqb-true}
+use Rattle.std.proofs.lemmas.Bool.{cond-true, cond-false, cases_eq, ne_eqb, eq-eqb}
 use Rattle.quantities.specs.declared.fault.MeasureFault.{MeasureFault}
 use Rattle.design_code.specs.Meaning.{Rule}
 use Rattle.keyed_table.specs.Rows.{lookup, added, without, replaced}
 use Rattle.keyed_table.proofs.Lookups.{by_test, adding, removing, replacing}
-use Rattle.ledger.specs.Ledger.{Ledger, culm_key, grade_at, culm_at, at, raised, dropped, struck, moved_by, on_rack, held_by, is_held, is_standing, with_culms}
+use Rattle.ledger.specs.Ledger.{Ledger, culm_key, grade_at, culm_at, at, raised, dropped, struck, moved_by, on_rack, held_by, is_held, is_standing}
 use Rattle.ledger.specs.Orders.{Order}
 use Rattle.ledger.specs.Orders.Order.{define_grade, define_class, add_culm, scrap_culm, open_ticket, check_out, check_in, hold, free, judge, set_member, drop_ticket, strike, load, judge_without, look_culm, look_member, look_counts}
 use Rattle.ledger.specs.Runs.{is_refused, Addition, addition_of, scraps, one_if, order_in, added_by, scrapped_by, of_number, addition_in}
@@ -14,8 +14,8 @@ use Rattle.ledger.specs.Table.{checks_of, done_by, changed_culm, new_culm, told_
 use Rattle.ledger.specs.declared.culm.Culm.{Culm}
 use Rattle.ledger.specs.declared.culm.Place.{Place}
 use Rattle.ledger.specs.declared.culm.Place.TheVariants.{Rack, Held, Standing}
-use Rattle.ledger.proofs.Kept.{Pass, Good, is_absent, is_present, is_so_lem}
-use Rattle.ledger.proofs.Numbered.{no_none, no_truth, inside, lookup_key, Apart, count_added, count_without, count_map}
+use Rattle.ledger.proofs.Kept.{Pass, Good, is_present, is_so_lem}
+use Rattle.ledger.proofs.Numbered.{no_none, inside, lookup_key, count_added, count_without, count_map}
 use Rattle.ledger.proofs.Strength.{refused_changes_nothing, accepted_passes, accepted_does}
 
 -- every culm is on the rack, held or standing

@@ -1,25 +1,22 @@
 -- What every ledger that began empty keeps: bundles are small, and judged tickets and standing members are met by the rule. Assumes nothing.
-use Rattle.std.proofs.Common.{◌≡◌, ℕ, ◌+◌, ◌-◌, ◌<◌, ◌≤◌, Bool, true, false, cond, not, eqb, ltb, ◌≢◌, ◌⊎◌, List, [], ◌∷◌, ◌++◌, map, length, Some, None, Option, sym, refl, ap, ◌∙◌, subst, ap₂, inl, inr, ⊎_elim, arith, length-append}
-use Rattle.std.specs.List.{flat_map}
-use Rattle.std.proofs.lemmas.Bool.{cond-true, cond-false, cond_both, cases_eq, ne_eqb, eq-eqb, eqb-true, eqb-false, ltb-true, not-false}
-use Rattle.quantities.specs.declared.duration.Duration.{Duration}
-use Rattle.quantities.specs.declared.forces.Forces.{Forces}
+use Rattle.std.proofs.Common.{◌≡◌, ℕ, ◌+◌, ◌<◌, ◌≤◌, Bool, true, false, eqb, ◌≢◌, List, [], ◌∷◌, map, length, Some, None, Option, sym, refl, ap, ◌∙◌, subst, ⊎_elim, arith, length-append}
+use Rattle.std.proofs.lemmas.Bool.{cond-false, cond_both, cases_eq, ne_eqb, eqb-true, ltb-true, not-false}
 use Rattle.design_code.specs.Meaning.{Rule}
 use Rattle.design_code.specs.declared.verdict.Verdict.{Verdict}
 use Rattle.design_code.specs.declared.verdict.Verdict.TheVariants.{Met, Refused as Against}
 use Rattle.keyed_table.specs.Rows.{lookup, added, without, replaced}
-use Rattle.keyed_table.proofs.Lookups.{by_test, adding, removing, replacing as replacing-laws}
-use Rattle.ledger.specs.Ledger.{Ledger, culm_key, member_key, grade_at, class_at, culm_at, member_at, Piece, piece_of, part_of, bundle, at, staged, reloaded, raised, dropped, struck, moved_by, on_rack, held_by, stands, is_in_hand, out_of_hand, is_judged, with_culms, with_members, with_grades, with_classes}
+use Rattle.keyed_table.proofs.Lookups.{adding, removing, replacing as replacing-laws}
+use Rattle.ledger.specs.Ledger.{Ledger, culm_key, member_key, grade_at, class_at, culm_at, member_at, Piece, part_of, bundle, at, staged, reloaded, raised, dropped, struck, moved_by, on_rack, held_by, stands, is_in_hand, out_of_hand, is_judged, with_culms, with_members}
 use Rattle.ledger.specs.Orders.{Order}
 use Rattle.ledger.specs.Orders.Order.{define_grade, define_class, add_culm, scrap_culm, open_ticket, check_out, check_in, hold, free, judge, set_member, drop_ticket, strike, load, judge_without, look_culm, look_member, look_counts}
-use Rattle.ledger.specs.Table.{Check, Question, question_of, question_for, verdict_on, refuses, ticket_question, load_question, reloaded_at, absent, present, is_not, is_so, checks_of, done_by, changed_culm, changed_member, new_culm, new_ticket, handed, removed, first_of, afterwards}
+use Rattle.ledger.specs.Table.{Check, Question, question_of, question_for, verdict_on, refuses, ticket_question, load_question, reloaded_at, absent, present, is_not, is_so, checks_of, done_by, changed_culm, changed_member, new_culm, new_ticket, handed, removed, afterwards}
 use Rattle.ledger.specs.declared.culm.Culm.{Culm}
 use Rattle.ledger.specs.declared.culm.Place.{Place}
 use Rattle.ledger.specs.declared.culm.Place.TheVariants.{Rack, Held, Standing}
 use Rattle.ledger.specs.declared.member.Member.{Member}
 use Rattle.ledger.specs.declared.member.Stage.{Stage}
 use Rattle.ledger.specs.declared.member.Stage.TheVariants.{Ticket, Standing as Stands}
-use Rattle.ledger.proofs.Numbered.{no_none, no_truth, inside, lookup_key, Apart, apart_added, apart_without, apart_map, apart_replaced, joined_map, joined_added_none, joined_replaced_same, joined_without_none, length_replaced}
+use Rattle.ledger.proofs.Numbered.{no_none, no_truth, lookup_key, Apart, apart_added, apart_without, apart_map, apart_replaced, joined_map, joined_added_none, joined_replaced_same, joined_without_none, length_replaced}
 
 -- no check applies
 abbrev pub Pass : List Check → Type 0

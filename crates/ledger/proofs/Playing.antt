@@ -1,16 +1,14 @@
 -- Whole runs: what is true of every call is true of every run. Assumes nothing.
-use Rattle.std.proofs.Common.{◌≡◌, ℕ, zero, suc, ◌+◌, ◌<◌, ◌≤◌, Bool, true, false, List, [], ◌∷◌, ◌++◌, length, get_or, take, Some, None, Ok, Err, Option, Result, sym, refl, ap, ◌∙◌, subst, arith}
+use Rattle.std.proofs.Common.{◌≡◌, ℕ, zero, suc, ◌+◌, ◌<◌, List, [], ◌∷◌, ◌++◌, length, get_or, take, None, Ok, Err, Option, Result, sym, refl, ap, ◌∙◌, subst, arith}
 use Rattle.quantities.specs.declared.fault.MeasureFault.{MeasureFault}
 use Rattle.design_code.specs.Meaning.{Rule, Meaning, Sound}
-use Rattle.ledger.specs.Ledger.{Ledger, counts}
+use Rattle.ledger.specs.Ledger.{Ledger}
 use Rattle.ledger.specs.Orders.{Order, measured}
-use Rattle.ledger.specs.Runs.{empty_ledger, run, answers, ledger_at, call_at, is_refused, Addition, accepted_order, added_by, scrapped_by, additions, scrappings, latest_from, Began, Whole}
+use Rattle.ledger.specs.Runs.{empty_ledger, run, answers, ledger_at, call_at, is_refused, Addition, additions, scrappings, latest_from, Began, Whole}
 use Rattle.ledger.specs.Table.{checks_of, done_by, told, next, next_of}
 use Rattle.ledger.specs.declared.answer.Answer.{Answer}
 use Rattle.ledger.specs.declared.answer.Answer.TheVariants.{Done}
 use Rattle.ledger.specs.declared.call.Call.{Call}
-use Rattle.ledger.specs.declared.call.Call.TheVariants.{LookCounts}
-use Rattle.ledger.specs.declared.culm.Culm.{Culm}
 use Rattle.ledger.proofs.Accounts.{places_add_up, step_count, step_traced, Traced}
 use Rattle.ledger.proofs.Kept.{Good, keeps, done_kept}
 use Rattle.ledger.proofs.Numbered.{no_none}

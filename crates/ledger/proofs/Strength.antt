@@ -1,25 +1,23 @@
 -- What acceptance and refusal of one call say, for every sound code. Assumes nothing.
-use Rattle.std.proofs.Common.{◌≡◌, ℕ, suc, ◌+◌, ◌<◌, ◌≤◌, Bool, true, false, cond, not, ◌⊎◌, List, [], ◌∷◌, ◌++◌, map, length, Some, None, Ok, Err, Option, Result, sym, refl, ap, ◌∙◌, subst, inl, inr, arith}
+use Rattle.std.proofs.Common.{◌≡◌, ℕ, suc, ◌≤◌, Bool, true, false, ◌⊎◌, List, [], ◌∷◌, ◌++◌, map, length, Some, None, Ok, Err, Option, Result, sym, refl, ap, ◌∙◌, subst, inl, inr, arith}
 use Rattle.std.proofs.lemmas.Bool.{cond-true, cond-false}
 use Rattle.quantities.specs.declared.fault.MeasureFault.{MeasureFault}
-use Rattle.quantities.specs.declared.readings.Readings.{Readings}
 use Rattle.design_code.specs.Meaning.{Rule, Meaning, Sound, Bundled}
 use Rattle.design_code.specs.declared.verdict.Verdict.{Verdict}
 use Rattle.design_code.specs.declared.verdict.Verdict.TheVariants.{Met, Refused as Against}
 use Rattle.keyed_table.specs.Rows.{without}
 use Rattle.keyed_table.proofs.Lookups.{by_test}
-use Rattle.ledger.specs.Ledger.{Ledger, culm_key, member_at, culm_at, Piece, part_of, bundle, counts}
-use Rattle.ledger.specs.Orders.{Order, measured}
+use Rattle.ledger.specs.Ledger.{Ledger, culm_key, member_at, culm_at, Piece, part_of, bundle}
+use Rattle.ledger.specs.Orders.{Order}
 use Rattle.ledger.specs.Orders.Order.{define_grade, define_class, add_culm, scrap_culm, open_ticket, check_out, check_in, hold, free, judge, set_member, drop_ticket, strike, load, judge_without, look_culm, look_member, look_counts}
 use Rattle.ledger.specs.Runs.{MeetsEveryClause, StandingMeet, asked_of, asked_by, Broken, is_refused}
 use Rattle.ledger.specs.Table.{Check, Question, question_of, question_for, reloaded_at, verdict_on, refuses, clause_of, strength, checks_of, done_by, accepted_by, told_culm, told_member, first_of, afterwards, answered, told_of, next_of}
 use Rattle.ledger.specs.declared.answer.Answer.{Answer}
-use Rattle.ledger.specs.declared.answer.Answer.TheVariants.{Done, Refused, OneCulm, OneMember, AllCounts}
+use Rattle.ledger.specs.declared.answer.Answer.TheVariants.{Refused}
 use Rattle.ledger.specs.declared.culm.Culm.{Culm}
 use Rattle.ledger.specs.declared.fault.BookFault.{BookFault}
 use Rattle.ledger.specs.declared.fault.BookFault.TheVariants.{Measure, AlreadyDefined, NotDefined, CulmKnown, CulmUnknown, CulmNotOnRack, NoCulmRow, MemberKnown, NotStanding, NoMemberRow, NoTicket, OtherState, BundleFull, OtherGrade, NotOfBundle, NoCulm, Clause}
 use Rattle.ledger.specs.declared.member.Member.{Member}
-use Rattle.ledger.specs.declared.member.Stage.TheVariants.{Standing}
 use Rattle.ledger.proofs.Kept.{Pass, met, Accepted, OwedAt, Owed, Good}
 use Rattle.ledger.proofs.Numbered.{no_none, no_truth, inside, length_without}
 

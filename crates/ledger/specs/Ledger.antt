@@ -1,5 +1,5 @@
 -- The ledger: what was defined, where each culm is, which tickets are open and which members stand. Assumes nothing.
-use Rattle.std.specs.Prelude.{ℕ, ◌-◌, Bool, true, false, cond, not, List, [], ◌∷◌, map, Some, None, count_by, Option, ◌==◌, nat_eq, slice_index_or}
+use Rattle.std.specs.Prelude.{ℕ, ◌-◌, Bool, true, false, cond, not, List, [], ◌∷◌, None, count_by, Option, ◌==◌, nat_eq, slice_index_or}
 use Rattle.std.specs.List.{flat_map}
 use Rattle.quantities.specs.declared.basis.DesignBasis.{DesignBasis}
 use Rattle.quantities.specs.declared.class.ServiceClass.{ServiceClass}

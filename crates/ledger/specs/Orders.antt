@@ -1,5 +1,5 @@
 -- A call whose numbers have become measures. Assumes nothing.
-use Rattle.std.specs.Prelude.{ℕ, Ok, Err, Result}
+use Rattle.std.specs.Prelude.{ℕ, Ok, Result}
 use Rattle.quantities.specs.Held.{and_then}
 use Rattle.quantities.specs.Measures.{within, grade, service_class, readings, forces}
 use Rattle.quantities.specs.declared.class.ServiceClass.{ServiceClass}

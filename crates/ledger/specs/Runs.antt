@@ -5,7 +5,7 @@ use Rattle.quantities.specs.declared.fault.MeasureFault.{MeasureFault}
 use Rattle.quantities.specs.declared.readings.Readings.{Readings}
 use Rattle.design_code.specs.Loads.{recorded, grown}
 use Rattle.design_code.specs.Meaning.{Rule, Meaning}
-use Rattle.ledger.specs.Ledger.{Ledger, culm_key, grade_at, class_at, culm_at, member_at, bundle, counts}
+use Rattle.ledger.specs.Ledger.{Ledger, culm_key, culm_at, member_at, bundle, counts}
 use Rattle.ledger.specs.Orders.{Order, measured}
 use Rattle.ledger.specs.Orders.Order.{define_grade, define_class, add_culm, scrap_culm, open_ticket, check_out, check_in, hold, free, judge, set_member, drop_ticket, strike, load, judge_without, look_culm, look_member, look_counts}
 use Rattle.ledger.specs.Table.{Question, question_of, question_for, reloaded_at, told, next}

@@ -11,7 +11,7 @@ use Rattle.quantities.specs.declared.within.Within.{Within}
 use Rattle.design_code.specs.Meaning.{Rule}
 use Rattle.design_code.specs.declared.verdict.Verdict.{Verdict}
 use Rattle.design_code.specs.declared.verdict.Verdict.TheVariants.{Met, Refused as Against}
-use Rattle.keyed_table.specs.Rows.{lookup, added, without, replaced}
+use Rattle.keyed_table.specs.Rows.{added, without, replaced}
 use Rattle.ledger.specs.Ledger.{Ledger, culm_key, member_key, grade_at, class_at, culm_at, member_at, Piece, bundle, basis_of, at, staged, reloaded, raised, dropped, struck, moved_by, on_rack, held_by, stands_in, is_ticket, stands, is_in_hand, out_of_hand, is_judged, counts, with_grades, with_classes, with_culms, with_members}
 use Rattle.ledger.specs.Orders.{Order, measured}
 use Rattle.ledger.specs.Orders.Order.{define_grade, define_class, add_culm, scrap_culm, open_ticket, check_out, check_in, hold, free, judge, set_member, drop_ticket, strike, load, judge_without, look_culm, look_member, look_counts}

@@ -5,7 +5,7 @@ use Rattle.std.proofs.lemmas.List.{flat_map_more, take_more, take-append-drop, l
 use Rattle.quantities.specs.Bundles.{culms_of}
 use Rattle.quantities.specs.declared.bundle.Bundle.{Bundle}
 use Rattle.ledger.specs.Ledger.{Piece, basis_of}
-use Rattle.ledger.specs.Table.{Question, question_of, grade_held}
+use Rattle.ledger.specs.Table.{question_of, grade_held}
 use Rattle.ledger.specs.declared.member.Member.{Member}
 use Rattle.ledger.proofs.Numbered.{no_none, inside}
 use Rattle.stock.specs.Gathering.{extended, Room, first_grade}

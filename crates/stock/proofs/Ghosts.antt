@@ -1,13 +1,13 @@
 -- What a stock keeps through its changes. Assumes nothing.
-use Rattle.std.proofs.Common.{◌≡◌, ℕ, ◌≤◌, Bool, true, false, cond, not, ltb, List, [], ◌∷◌, map, length, is_some, Some, None, Ok, Err, Option, Result, sym, refl, ap, ◌∙◌, subst, ap₂, arith}
-use Rattle.std.proofs.lemmas.Bool.{cond-true, cond-false, cond_both}
-use Rattle.keyed_table.specs.Rows.{lookup, added, without, replaced}
+use Rattle.std.proofs.Common.{◌≡◌, ℕ, false, not, ltb, List, [], ◌∷◌, map, length, is_some, Some, None, Ok, Err, Option, Result, sym, refl, ap, ◌∙◌, subst, arith}
+use Rattle.std.proofs.lemmas.Bool.{cond_both}
+use Rattle.keyed_table.specs.Rows.{lookup, added, without}
 use Rattle.keyed_table.specs.Tables.{Sound, content, insertion, enlarged, Kept as TableKept}
 use Rattle.keyed_table.specs.declared.Table.{Table}
 use Rattle.keyed_table.specs.declared.Refusal.{Refusal}
 use Rattle.keyed_table.specs.declared.Refusal.TheVariants.{Full, NumberTaken, NoSuchRow}
 use Rattle.keyed_table.proofs.Lookups.{by_test}
-use Rattle.ledger.specs.Ledger.{culm_key, bundle, part_of}
+use Rattle.ledger.specs.Ledger.{culm_key, part_of}
 use Rattle.ledger.specs.Table.{first_of, afterwards, present}
 use Rattle.ledger.specs.declared.culm.Culm.{Culm}
 use Rattle.ledger.specs.declared.fault.BookFault.{BookFault}
@@ -18,7 +18,7 @@ use Rattle.stock.specs.Stocks.{Small, Kept, met_by, OnErr}
 use Rattle.stock.specs.declared.event.Event.{Event}
 use Rattle.stock.specs.declared.row.CulmRow.{CulmRow}
 use Rattle.stock.specs.declared.stock.Stock.{Stock}
-use Rattle.stock.proofs.Wrapped.{culm_in, AllClear, lookup_wrapped, added_wrapped, without_wrapped, length_wrapped, all_clear, none_aside_lem, clear_added}
+use Rattle.stock.proofs.Wrapped.{culm_in, AllClear, lookup_wrapped, added_wrapped, length_wrapped, none_aside_lem, clear_added}
 
 -- the table with the rows is a stock that is kept
 pub keeps : (t : Table CulmRow) (rows : List CulmRow) (cs : List Culm) → Sound row_key t → content t ≡ rows → AllClear rows → culms_in rows ≡ cs → Small cs → Kept (record { rows = t })

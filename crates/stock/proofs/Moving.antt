@@ -1,6 +1,6 @@
 -- Why no bundle of a stock gets too large. Assumes nothing.
-use Rattle.std.proofs.Common.{◌≡◌, ℕ, zero, suc, ◌+◌, ◌<◌, ◌≤◌, Bool, true, false, cond, ◌≢◌, List, [], ◌∷◌, ◌++◌, map, length, get_or, Some, None, Option, sym, refl, ap, ◌∙◌, subst, arith, length-append}
-use Rattle.std.specs.List.{flat_map, remove}
+use Rattle.std.proofs.Common.{◌≡◌, ℕ, zero, suc, ◌<◌, ◌≤◌, Bool, true, false, cond, List, [], ◌∷◌, ◌++◌, map, length, Some, None, sym, refl, ap, ◌∙◌, subst, arith, length-append}
+use Rattle.std.specs.List.{remove}
 use Rattle.keyed_table.specs.Rows.{NumberAt, NoRowHas, lookup, added, without, replaced}
 use Rattle.keyed_table.specs.Tables.{content}
 use Rattle.keyed_table.proofs.ByNumber.{lookup_lacks, without_at, without_lacks}
@@ -9,10 +9,10 @@ use Rattle.ledger.specs.Ledger.{culm_key, part_of, bundle, at, on_rack, held_by}
 use Rattle.ledger.specs.declared.culm.Culm.{Culm}
 use Rattle.ledger.specs.declared.culm.Place.{Place}
 use Rattle.ledger.specs.declared.culm.Place.TheVariants.{Rack, Held}
-use Rattle.ledger.proofs.Kept.{part_rack, part_held_other, part_of_holder, part_raised, part_dropped, part_struck, length_part, length_dropped, length_struck, moved_few}
+use Rattle.ledger.proofs.Kept.{part_rack, part_held_other, part_of_holder, length_part, moved_few}
 use Rattle.ledger.proofs.Numbered.{Apart, joined_added_none, no_none, inside}
 use Rattle.stock.specs.Marks.{with_mark, ClearAt}
-use Rattle.stock.specs.Rows.{row_key, culms_in, part_in, bundle_in, aside_count}
+use Rattle.stock.specs.Rows.{row_key, culms_in, part_in, bundle_in}
 use Rattle.stock.specs.Stocks.{held, Small, Kept}
 use Rattle.stock.specs.declared.row.CulmRow.{CulmRow}
 use Rattle.stock.specs.declared.stock.Stock.{Stock}

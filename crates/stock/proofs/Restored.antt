@@ -1,5 +1,5 @@
 -- A mark that is set and cleared leaves the rows as they were. Assumes nothing.
-use Rattle.std.proofs.Common.{◌≡◌, ℕ, zero, suc, ◌+◌, ◌<◌, ◌≤◌, Bool, true, false, cond, List, [], ◌∷◌, ◌++◌, map, length, get_or, set, sym, refl, ap, ◌∙◌, ap₂, arith}
+use Rattle.std.proofs.Common.{◌≡◌, ℕ, zero, suc, ◌<◌, Bool, true, false, List, [], ◌∷◌, length, get_or, set, sym, refl, ap, arith}
 use Rattle.stock.specs.Marks.{with_mark, ClearAt}
 use Rattle.stock.specs.Rows.{marked}
 use Rattle.stock.specs.declared.row.CulmRow.{CulmRow}

@@ -1,13 +1,12 @@
 -- Culms by number, through the rows that hold them. Assumes nothing.
-use Rattle.std.proofs.Common.{◌≡◌, ℕ, zero, suc, ◌+◌, ◌<◌, ◌≤◌, Bool, true, false, cond, eqb, ltb, List, [], ◌∷◌, ◌++◌, map, length, Some, None, count_by, Option, sym, refl, ap, ◌∙◌, subst, ap₂, arith}
-use Rattle.std.specs.List.{flat_map}
+use Rattle.std.proofs.Common.{◌≡◌, ℕ, suc, ◌+◌, Bool, true, false, cond, eqb, ltb, List, [], ◌∷◌, ◌++◌, map, length, Some, None, count_by, Option, sym, refl, ap, ◌∙◌, subst, ap₂, arith}
 use Rattle.std.proofs.lemmas.List.Sums.{sum_by-cons}
 use Rattle.std.proofs.lemmas.Bool.{cond-true, cond-false}
 use Rattle.keyed_table.specs.Rows.{lookup, added, without, replaced}
 use Rattle.keyed_table.proofs.Lookups.{by_test}
 use Rattle.ledger.specs.Ledger.{culm_key, part_of, bundle}
 use Rattle.ledger.specs.declared.culm.Culm.{Culm}
-use Rattle.stock.specs.Rows.{row_key, culms_in, part_in, bundle_in, aside_count}
+use Rattle.stock.specs.Rows.{row_key, culms_in, bundle_in, aside_count}
 use Rattle.stock.specs.declared.row.CulmRow.{CulmRow}
 
 abbrev pub culm_in : Option CulmRow → Option Culm

@@ -1,5 +1,5 @@
 -- What an event does to a culm, by its place: the whole table. Assumes nothing.
-use Rattle.std.specs.Prelude.{ℕ, cond, ◌==◌}
+use Rattle.std.specs.Prelude.{cond, ◌==◌}
 use Rattle.ledger.specs.declared.culm.Place.{Place}
 use Rattle.ledger.specs.declared.culm.Place.TheVariants.{Rack, Held, Standing}
 use Rattle.stock.specs.declared.event.Event.{Event}

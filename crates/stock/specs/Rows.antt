@@ -1,5 +1,5 @@
 -- The culms in rows, and their bundles while one may be set aside. Assumes nothing.
-use Rattle.std.specs.Prelude.{ℕ, Bool, cond, List, [], ◌∷◌, map, Some, None, count_by, Option}
+use Rattle.std.specs.Prelude.{ℕ, Bool, cond, List, [], map, Some, None, count_by, Option}
 use Rattle.std.specs.List.{flat_map}
 use Rattle.quantities.specs.Bundles.{culms_of}
 use Rattle.quantities.specs.declared.bundle.Bundle.{Bundle}

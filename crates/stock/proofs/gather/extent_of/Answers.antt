@@ -1,4 +1,4 @@
-use Rattle.std.proofs.Common.{◌≡◌, ◌+◌, ◌++◌, length, take, sym, ap, ◌∙◌, arith, take_all}
+use Rattle.std.proofs.Common.{length, take, sym, ap, ◌∙◌, arith, take_all}
 use Rattle.std.proofs.lemmas.List.{length-append}
 use Rattle.ledger.specs.Ledger.{piece_of}
 use Rattle.ledger.specs.Table.{grade_held}

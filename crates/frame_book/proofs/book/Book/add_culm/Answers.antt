@@ -1,4 +1,4 @@
-use Rattle.std.proofs.Common.{ap, ◌∙◌, rules}
+use Rattle.std.proofs.Common.{ap, ◌∙◌}
 use Rattle.ledger.specs.Table.{next_of}
 use Rattle.frame_book.specs.Books.{ledger_of}
 use Rattle.frame_book.specs.Calls.{refusal_of}

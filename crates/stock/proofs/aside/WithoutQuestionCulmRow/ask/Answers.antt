@@ -1,4 +1,4 @@
-use Rattle.std.proofs.Common.{◌≡◌, true, false, length, sym, ap, ◌∙◌, ap₂, arith, rules}
+use Rattle.std.proofs.Common.{true, false, length, ap, ◌∙◌, ap₂, arith, rules}
 use Rattle.ledger.specs.Table.{question_of}
 use Rattle.stock.specs.Marks.{with_mark}
 use Rattle.stock.specs.Rows.{bundle_in}

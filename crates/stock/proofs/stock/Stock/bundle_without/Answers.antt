@@ -1,4 +1,4 @@
-use Rattle.std.proofs.Common.{◌≡◌, ap, ◌∙◌, rules}
+use Rattle.std.proofs.Common.{ap, ◌∙◌, rules}
 use Rattle.ledger.specs.Table.{question_of}
 use Rattle.stock.proofs.Moving.{marked_is, marked_can, absent_is}
 use Rattle.stock.proofs.stock.Stock.bundle_without.Goals as goal

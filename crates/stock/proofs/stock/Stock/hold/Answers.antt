@@ -1,4 +1,4 @@
-use Rattle.std.proofs.Common.{◌≡◌, sym, subst, arith}
+use Rattle.std.proofs.Common.{sym, subst, arith}
 use Rattle.keyed_table.specs.Rows.{replaced}
 use Rattle.ledger.specs.Ledger.{culm_key, on_rack, at}
 use Rattle.ledger.specs.declared.culm.Place.TheVariants.{Held}

@@ -1,4 +1,4 @@
-use Rattle.std.proofs.Common.{◌≡◌, ℕ, ◌≤◌, length, refl, ap, ◌∙◌, subst, arith}
+use Rattle.std.proofs.Common.{◌≡◌, ℕ, ◌≤◌, length, refl, ap, subst, arith}
 use Rattle.ledger.specs.Ledger.{part_of, raised}
 use Rattle.ledger.specs.declared.culm.Culm.{Culm}
 use Rattle.ledger.specs.declared.culm.Place.{Place}
