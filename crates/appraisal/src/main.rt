@@ -6,13 +6,13 @@ mod report;
 
 use quantities::basis::DesignBasis;
 use quantities::bundle::Bundle;
-use quantities::class::{RawFactors, ServiceClass};
+use quantities::class::{RawClass, RawFactors, ServiceClass};
 use quantities::duration::Duration;
 use quantities::fault::MeasureFault;
-use quantities::forces::Forces;
-use quantities::grade::Grade;
+use quantities::forces::{Forces, RawForces};
+use quantities::grade::{Grade, RawGrade};
 use quantities::numbers::EffectiveLength;
-use quantities::readings::Readings;
+use quantities::readings::{RawReadings, Readings};
 
 // A bundle and the forces on it.
 #[derive(Clone, Copy)]
@@ -23,24 +23,43 @@ struct Member {
 
 // The worked culm: 100.0 mm with a wall of 10.0 mm, straight, 2 m long, under an instantaneous load.
 fn worked_member() -> Result<Member, MeasureFault> {
-    let strength = RawFactors {
-        permanent: 55,
-        transient: 65,
-        instantaneous: 85,
+    let grade = RawGrade {
+        bending: 658,
+        compression: 497,
+        tension: 984,
+        shear: 79,
+        modulus: 1300,
     };
-    let modulus = RawFactors {
-        permanent: 45,
-        transient: 95,
-        instantaneous: 100,
+    let class = RawClass {
+        strength: RawFactors {
+            permanent: 55,
+            transient: 65,
+            instantaneous: 85,
+        },
+        modulus: RawFactors {
+            permanent: 45,
+            transient: 95,
+            instantaneous: 100,
+        },
+    };
+    let readings = RawReadings {
+        diameter: 1000,
+        wall: 100,
+        straightness: 100,
+    };
+    let forces = RawForces {
+        axial: 20000,
+        shear: 0,
+        moment: 645,
     };
     let basis = DesignBasis {
-        grade: Grade::measured(3, 658, 497, 984, 79, 1300)?,
-        class: ServiceClass::measured(3, strength, modulus)?,
+        grade: Grade::measured(3, grade)?,
+        class: ServiceClass::measured(3, class)?,
         duration: Duration::Instantaneous,
         length: EffectiveLength::in_field(3, 2000)?,
     };
-    let culm = Readings::measured(4, 1000, 100, 100)?;
-    let forces = Forces::measured(6, 20000, 0, 645)?;
+    let culm = Readings::measured(4, readings)?;
+    let forces = Forces::measured(6, forces)?;
     Ok(Member {
         bundle: Bundle::of(culm, basis),
         forces,

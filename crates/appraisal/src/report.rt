@@ -3,7 +3,6 @@ use capacity::told::{Capacity, tell};
 use design_code::appraisal as code;
 use design_code::verdict::Verdict;
 use quantities::bundle::Bundle;
-use quantities::duration::Duration;
 use quantities::forces::Forces;
 use quantities::grade::Strength;
 use quantities::readings::Readings;
@@ -12,9 +11,20 @@ use shop_code::compression::CompressionCode;
 use shop_code::shear::ShearCode;
 use shop_code::shop::shop_verdict;
 use shop_code::tension::TensionCode;
+use std::fmt;
+
+// Tenths, printed as a decimal fraction.
+#[derive(Clone, Copy)]
+struct Tenths(u32);
+
+impl fmt::Display for Tenths {
+    fn fmt<W: fmt::Write>(&self, f: &mut fmt::Formatter<W>) -> fmt::Result {
+        write!(f, "{}.{}", self.0 / 10, self.0 % 10)
+    }
+}
 
 // Prints what a bundle is, its allowable strengths, its capacities and the verdict on it under forces.
-pub fn appraise(rt: &HostRuntime, bundle: &Bundle, forces: Forces) -> anyhow::Result<()> {
+pub fn appraise(rt: &impl Print, bundle: &Bundle, forces: Forces) -> anyhow::Result<()> {
     print_basis(rt, bundle)?;
     print_culms(rt, bundle.culms())?;
     print_strengths(rt, bundle)?;
@@ -24,57 +34,45 @@ pub fn appraise(rt: &HostRuntime, bundle: &Bundle, forces: Forces) -> anyhow::Re
     print_verdict(rt, shop_verdict(bundle, forces))
 }
 
-fn print_basis(rt: &HostRuntime, bundle: &Bundle) -> anyhow::Result<()> {
+fn print_basis(rt: &impl Print, bundle: &Bundle) -> anyhow::Result<()> {
     let basis = bundle.basis;
     let length = basis.length.value;
-    let duration = duration_word(basis.duration);
-    let strength = basis.class.strength.during(basis.duration).value;
-    let modulus = basis.class.modulus.during(basis.duration).value;
+    let duration = basis.duration;
+    let strength = basis.class.strength.during(duration).value;
+    let modulus = basis.class.modulus.during(duration).value;
     println!(rt; "effective length {length} mm, {duration} load")?;
     println!(rt; "factors of the class: {strength} % on strength, {modulus} % on the modulus")?;
     Ok(())
 }
 
-fn duration_word(duration: Duration) -> &'static str {
-    match duration {
-        Duration::Permanent => "permanent",
-        Duration::Transient => "transient",
-        Duration::Instantaneous => "instantaneous",
-    }
-}
-
-fn print_culms(rt: &HostRuntime, culms: &[Readings]) -> anyhow::Result<()> {
+fn print_culms(rt: &impl Print, culms: &[Readings]) -> anyhow::Result<()> {
     println!(rt; "culms (diameter, wall, straightness):")?;
     for culm in culms {
-        let diameter = culm.diameter.value / 10;
-        let diameter_tenth = culm.diameter.value % 10;
-        let wall = culm.wall.value / 10;
-        let wall_tenth = culm.wall.value % 10;
+        let diameter = Tenths(culm.diameter.value);
+        let wall = Tenths(culm.wall.value);
         let straightness = culm.straightness.value;
-        println!(rt; "  {diameter}.{diameter_tenth} mm, {wall}.{wall_tenth} mm, {straightness} %")?;
+        println!(rt; "  {diameter} mm, {wall} mm, {straightness} %")?;
     }
     Ok(())
 }
 
-fn print_strengths(rt: &HostRuntime, bundle: &Bundle) -> anyhow::Result<()> {
+fn print_strengths(rt: &impl Print, bundle: &Bundle) -> anyhow::Result<()> {
     let grade = bundle.basis.grade;
     let percent = redundancy(bundle.culms().len());
-    let modulus = factored_modulus(&bundle.basis).value;
-    let whole = modulus / 10;
-    let tenth = modulus % 10;
+    let modulus = Tenths(factored_modulus(&bundle.basis).value);
     println!(rt; "redundancy factor {percent} %")?;
     println!(rt; "allowable strengths and modulus:")?;
     print_strength(rt, bundle, "bending f_m", grade.bending, 50)?;
     print_strength(rt, bundle, "compression f_c", grade.compression, 50)?;
     print_strength(rt, bundle, "tension f_t", grade.tension, 50)?;
     print_strength(rt, bundle, "shear f_v", grade.shear, 25)?;
-    println!(rt; "  modulus E {whole}.{tenth} MPa")?;
+    println!(rt; "  modulus E {modulus} MPa")?;
     Ok(())
 }
 
 // An allowable strength: the factored one has `ten_millionths` of a megapascal to the unit.
 fn print_strength(
-    rt: &HostRuntime,
+    rt: &impl Print,
     bundle: &Bundle,
     name: &str,
     characteristic: Strength,
@@ -88,30 +86,23 @@ fn print_strength(
     Ok(())
 }
 
-fn print_capacities(rt: &HostRuntime, bundle: &Bundle) -> anyhow::Result<()> {
+fn print_capacities(rt: &impl Print, bundle: &Bundle) -> anyhow::Result<()> {
     println!(rt; "capacities, each between two whole numbers:")?;
-    print_capacity(rt, bundle, Capacity::Moment, "moment M_r", "N m")?;
-    print_capacity(rt, bundle, Capacity::Shear, "shear V_r", "N")?;
-    print_capacity(rt, bundle, Capacity::Tension, "tension N_t", "N")?;
-    print_capacity(rt, bundle, Capacity::Crushing, "crushing P_c", "N")?;
-    print_capacity(rt, bundle, Capacity::Buckling, "buckling P_e", "N")
-}
-
-fn print_capacity(
-    rt: &HostRuntime,
-    bundle: &Bundle,
-    capacity: Capacity,
-    name: &str,
-    unit: &str,
-) -> anyhow::Result<()> {
-    let pair = tell(capacity, bundle);
-    let lower = pair.lower;
-    let upper = pair.upper;
-    println!(rt; "  {name} {lower} to {upper} {unit}")?;
+    let capacities = [
+        (Capacity::Moment, "moment M_r", "N m"),
+        (Capacity::Shear, "shear V_r", "N"),
+        (Capacity::Tension, "tension N_t", "N"),
+        (Capacity::Crushing, "crushing P_c", "N"),
+        (Capacity::Buckling, "buckling P_e", "N"),
+    ];
+    for (capacity, name, unit) in capacities {
+        let pair = tell(capacity, bundle);
+        println!(rt; "  {name} {} to {} {unit}", pair.lower, pair.upper)?;
+    }
     Ok(())
 }
 
-fn print_forces(rt: &HostRuntime, forces: Forces) -> anyhow::Result<()> {
+fn print_forces(rt: &impl Print, forces: Forces) -> anyhow::Result<()> {
     let axial = forces.axial.newtons;
     let shear = forces.shear.value;
     let moment = forces.moment.value;
@@ -119,38 +110,32 @@ fn print_forces(rt: &HostRuntime, forces: Forces) -> anyhow::Result<()> {
     Ok(())
 }
 
-fn print_clauses(rt: &HostRuntime, bundle: &Bundle, forces: Forces) -> anyhow::Result<()> {
+fn print_clauses(rt: &impl Print, bundle: &Bundle, forces: Forces) -> anyhow::Result<()> {
     println!(rt; "clauses:")?;
-    print_clause(
-        rt,
-        "1 bending",
-        code::appraise(&BendingCode {}, bundle, forces),
-    )?;
-    print_clause(rt, "2 shear", code::appraise(&ShearCode {}, bundle, forces))?;
-    print_clause(
-        rt,
-        "3 tension",
-        code::appraise(&TensionCode {}, bundle, forces),
-    )?;
-    print_clause(
-        rt,
-        "4 compression",
-        code::appraise(&CompressionCode {}, bundle, forces),
-    )
-}
-
-fn print_clause(rt: &HostRuntime, name: &str, verdict: Verdict) -> anyhow::Result<()> {
-    match verdict {
-        Verdict::Met => println!(rt; "  {name}: met")?,
-        Verdict::Refused(_) => println!(rt; "  {name}: not accepted")?,
+    let clauses = [
+        ("1 bending", code::appraise(&BendingCode, bundle, forces)),
+        ("2 shear", code::appraise(&ShearCode, bundle, forces)),
+        ("3 tension", code::appraise(&TensionCode, bundle, forces)),
+        (
+            "4 compression",
+            code::appraise(&CompressionCode, bundle, forces),
+        ),
+    ];
+    for (name, verdict) in clauses {
+        let word = if verdict.is_ok() {
+            "met"
+        } else {
+            "not accepted"
+        };
+        println!(rt; "  {name}: {word}")?;
     }
     Ok(())
 }
 
-fn print_verdict(rt: &HostRuntime, verdict: Verdict) -> anyhow::Result<()> {
+fn print_verdict(rt: &impl Print, verdict: Verdict) -> anyhow::Result<()> {
     match verdict {
-        Verdict::Met => println!(rt; "verdict: met")?,
-        Verdict::Refused(clause) => println!(rt; "verdict: refused, clause {clause} decides")?,
+        Ok(()) => println!(rt; "verdict: met")?,
+        Err(refused) => println!(rt; "verdict: refused, clause {} decides", refused.clause)?,
     }
     Ok(())
 }

@@ -4,3 +4,4 @@ pub mod ShareSizes
 pub mod Rounded
 pub mod Pairs
 pub mod Positives
+pub mod Summed

@@ -1,16 +1,16 @@
 -- Every capacity and every figure of a bundle is above 0, and every figure is small. Assumes nothing.
-use Rattle.std.proofs.Common.{ℕ, ◌*◌, ◌^◌, ◌<◌, ◌≤◌, List, [], ◌∷◌, length, sum_by, subst, lt_of_mul-lt-mul_right, mul-pos, arith}
+use Rattle.std.proofs.Common.{ℕ, ◌*◌, ◌^◌, ◌<◌, ◌≤◌, List, [], ◌∷◌, length, sum_by, lt_of_mul-lt-mul_right, mul-pos, arith}
 use Rattle.exact.specs.Fraction.{Fraction, over, times, total_by}
 use Rattle.exact.specs.Laws.{Positive}
 use Rattle.exact.specs.Rounding.{Figured}
 use Rattle.quantities.specs.declared.basis.DesignBasis.{DesignBasis}
 use Rattle.quantities.specs.declared.readings.Readings.{Readings}
 use Rattle.capacity.specs.Capacities.{moment_capacity, shear_capacity, axial_capacity, tension_capacity, crushing_capacity, least_straightness, buckling_capacity}
-use Rattle.capacity.specs.Figures.{tension_figure, crushing_figure, buckling_figure}
+use Rattle.capacity.specs.Figures.{tension_figure, crushing_figure}
 use Rattle.capacity.specs.Strengths.{factored_strength, factored_modulus}
 use Rattle.capacity.specs.Terms.{ring_area, second_moment, section_modulus, shear_area}
 use Rattle.capacity.proofs.Allowable.{strength_lies, modulus_lies}
-use Rattle.capacity.proofs.Rounded.{area_small, axial_small, straightness_lies, sizes, buckling_small, buckling_is}
+use Rattle.capacity.proofs.Rounded.{area_small, axial_small, straightness_lies}
 use Rattle.capacity.proofs.ShareSizes.{sum_large}
 use Rattle.capacity.proofs.Sizes.{area_large, second_moment_large, cubes_beside}
 
@@ -86,15 +86,8 @@ figure_some n s low high ps ph f =
 module _ (cs : List Readings) (b : DesignBasis) (few : length cs ≤ 16) where
   pub tension_small : tension_figure cs b < 2 ^ 43
   tension_small =
-      axial_small (factored_strength cs b b.grade.tension.value) (sum_by ring_area cs) (strength_lies cs b b.grade.tension).to (area_small cs b few)
+      axial_small (factored_strength cs b b.grade.tension.value) (sum_by ring_area cs) (strength_lies cs b b.grade.tension).to (area_small cs few)
 
   pub crushing_small : crushing_figure cs b < 2 ^ 43
   crushing_small =
-      axial_small (factored_strength cs b b.grade.compression.value) (sum_by ring_area cs) (strength_lies cs b b.grade.compression).to
-      (area_small cs b few)
-
-  pub buckling_figure_small : 0 < length cs → buckling_figure cs b < 2 ^ 46
-  buckling_figure_small some =
-      let s = sizes cs some few b in
-      subst (λ n. n < 2 ^ 46) (buckling_is cs some few b)
-      (buckling_small (factored_modulus b * least_straightness cs * sum_by second_moment cs) (b.length.value * b.length.value) s.from s.to s.short s.long)
+      axial_small (factored_strength cs b b.grade.compression.value) (sum_by ring_area cs) (strength_lies cs b b.grade.compression).to (area_small cs few)

@@ -1,15 +1,15 @@
 -- Each figure stands for its capacity from below, and how large it can be. Assumes nothing.
-use Rattle.std.proofs.Common.{◌≡◌, ℕ, ◌*◌, ◌/◌, ◌^◌, ◌<◌, ◌≤◌, min, List, [], ◌∷◌, length, fold, sum_by, sym, subst, ap₂, mul-le-mul, arith}
+use Rattle.std.proofs.Common.{ℕ, ◌*◌, ◌^◌, ◌<◌, ◌≤◌, min, List, [], ◌∷◌, length, fold, sum_by, mul-le-mul, arith}
 use Rattle.std.proofs.lemmas.Nat.{div_below, le-div}
-use Rattle.exact.specs.Fraction.{Fraction, over}
+use Rattle.exact.specs.Fraction.{over}
 use Rattle.exact.specs.Rounding.{Figured}
 use Rattle.exact.proofs.Rounding.{figured_sum, figured_once}
 use Rattle.quantities.specs.declared.basis.DesignBasis.{DesignBasis}
 use Rattle.quantities.specs.declared.readings.Readings.{Readings}
 use Rattle.exact.specs.Pi.{lower_pi, upper_pi}
-use Rattle.capacity.specs.Capacities.{moment_factor, moment_capacity, shear_factor, shear_capacity, axial_capacity, least_straightness, buckling_from, buckling_capacity}
-use Rattle.capacity.specs.Figures.{moment_figure, shear_figure, cube_below, buckling_figure}
-use Rattle.capacity.specs.Shares.{moment_share, shear_share, axial_share}
+use Rattle.capacity.specs.Capacities.{moment_factor, moment_capacity, shear_factor, shear_capacity, axial_capacity, tension_capacity, crushing_capacity, least_straightness, buckling_from, buckling_capacity}
+use Rattle.capacity.specs.Figures.{moment_figure, shear_figure, tension_figure, crushing_figure, cube_below, buckling_figure}
+use Rattle.capacity.specs.Shares.{moment_share, shear_share, axial_share, buckling_share}
 use Rattle.capacity.specs.Strengths.{bending_strength, shear_strength, factored_strength, factored_modulus}
 use Rattle.capacity.specs.Terms.{ring_area, second_moment, section_modulus, shear_area}
 use Rattle.capacity.proofs.Allowable.{Lies, product_lies, in_range, strength_lies, modulus_lies}
@@ -44,11 +44,8 @@ module _ (cs : List Readings) (b : DesignBasis) where
         λ c. omega (arith, shear_share_small k (strength_lies cs b b.grade.shear).to c) in
         omega (arith, sum_small (shear_share k) 137438953471 small cs)
 
-    pub area_small : sum_by ring_area cs ≤ 63936016
-    area_small = omega (arith, sum_small ring_area 3996001 ring_area_small cs)
-
-pub axial_is : (k a : ℕ) → k * 314159265 * 65536 * a / 8000000000000000 ≡ axial_share k a
-axial_is k a = ap₂ (λ x y. x / y) (omega arith) (omega arith)
+pub area_small : (cs : List Readings) → length cs ≤ 16 → sum_by ring_area cs ≤ 63936016
+area_small cs few = omega (arith, sum_small ring_area 3996001 ring_area_small cs)
 
 pub axial_small : (k a : ℕ) → k ≤ 22000000 → a ≤ 63936016 → axial_share k a < 2 ^ 43
 axial_small k a hk ha =
@@ -63,33 +60,32 @@ axial_figured k cs hk some =
     (axial_capacity upper_pi (over k 200000) cs) (omega arith) (omega arith)
     (le-div 2000 (65536 * (k * 314159265 * 1 * a)) (1 * (8000000000000000 * 1)) (omega arith) (omega (arith, mul-le-mul hk large)))
 
--- what holds of a figure holds of a number that equals it
-pub carried : {n f s b : ℕ} {low high : Fraction} → n ≡ f → Figured f s low high → f < b → Figured n s low high × (n < b)
-carried {n} {f} {s} {b} {low} {high} e h small = (subst (λ x. Figured x s low high) (sym e) h, subst (λ x. x < b) (sym e) small)
+module _ (cs : List Readings) (b : DesignBasis) (some : 0 < length cs) where
+  pub tension_figured : Figured (tension_figure cs b) 65536 (tension_capacity lower_pi cs b) (tension_capacity upper_pi cs b)
+  tension_figured = axial_figured (factored_strength cs b b.grade.tension.value) cs (strength_lies cs b b.grade.tension).from some
+
+  pub crushing_figured : Figured (crushing_figure cs b) 65536 (crushing_capacity lower_pi cs b) (crushing_capacity upper_pi cs b)
+  crushing_figured = axial_figured (factored_strength cs b b.grade.compression.value) cs (strength_lies cs b b.grade.compression).from some
 
 -- m for modulus, w for straightness, g for second moment, l for length
-module _ (m w g l : ℕ) where
-  abbrev product : ℕ
-  product = m * w * g
+module _ (m w g l : ℕ) (hm : Lies 2000 200000 m) (hw : Lies 10 100 w) (hg : Lies 4183900000 255488383872016 g) (hl : Lies 500 8000 l) where
+  stiffness : Lies 83678000000000 5109767677440320000000 (m * w * g)
+  stiffness = product_lies (product_lies hm hw) hg
 
-  pub record BucklingSizes : Type 0 where
-    pub from : 83678000000000 ≤ product
-    pub to : product ≤ 5109767677440320000000
-    pub short : 250000 ≤ l * l
-    pub long : l * l ≤ 64000000
+  span : Lies 250000 64000000 (l * l)
+  span = product_lies hl hl
 
-  pub buckling_sizes : Lies 2000 200000 m → Lies 10 100 w → Lies 4183900000 255488383872016 g → Lies 500 8000 l → BucklingSizes
-  buckling_sizes hm hw hg hl =
-      let all = product_lies (product_lies hm hw) hg in
-      let span = product_lies hl hl in
-      record { from = all.from; to = all.to; short = span.from; long = span.to }
+  abbrev over_span : ℕ
+  over_span = 65536 * (31006276 * m * (w * g) * 1)
 
-module _ (a l : ℕ) (from : 83678000000000 ≤ a) (to : a ≤ 5109767677440320000000) (short : 250000 ≤ l) (long : l ≤ 64000000) where
-  pub buckling_small : 31006276 * 65536 * a / (640000000000000 * l) < 2 ^ 46
-  buckling_small = div_below (31006276 * 65536 * a) (640000000000000 * l) (2 ^ 46) (omega arith) (omega arith)
+  abbrev under_span : ℕ
+  under_span = 1 * (1000000 * 10 * (100 * 1) * (640000 * (l * l)))
 
-  pub buckling_large : 2000 ≤ 31006276 * 65536 * a / (640000000000000 * l)
-  buckling_large = le-div 2000 (31006276 * 65536 * a) (640000000000000 * l) (omega arith) (omega arith)
+  pub buckling_small : buckling_share m w g l < 2 ^ 46
+  buckling_small = div_below over_span under_span (2 ^ 46) (omega (arith, span)) (omega (arith, stiffness, span))
+
+  pub buckling_large : 2000 ≤ buckling_share m w g l
+  buckling_large = le-div 2000 over_span under_span (omega (arith, span)) (omega (arith, stiffness, span))
 
 least_from : (cs : List Readings) (a : ℕ) → Lies 10 100 a → Lies 10 100 (fold (λ least c. min least c.straightness.value) a cs)
 least_from [] a h = h
@@ -107,21 +103,15 @@ module _ (cs : List Readings) where
     }
 
     module _ (b : DesignBasis) where
-      abbrev g : ℕ
-      g = sum_by second_moment cs
-
-      abbrev l : ℕ
-      l = b.length.value
-
-      pub sizes : BucklingSizes (factored_modulus b) (least_straightness cs) g l
-      sizes = buckling_sizes (factored_modulus b) (least_straightness cs) g l (modulus_lies b) straightness_lies second_moment_lies (in_range b.length)
-
-      pub buckling_is : 31006276 * 65536 * (factored_modulus b * least_straightness cs * g) / (640000000000000 * (l * l)) ≡ buckling_figure cs b
-      buckling_is = ap₂ (λ x y. x / y) (omega arith) (omega arith)
+      pub buckling_figure_small : buckling_figure cs b < 2 ^ 46
+      buckling_figure_small =
+          buckling_small (factored_modulus b) (least_straightness cs) (sum_by second_moment cs) b.length.value (modulus_lies b) straightness_lies
+          second_moment_lies (in_range b.length)
 
       pub buckling_figured : Figured (buckling_figure cs b) 65536 (buckling_capacity lower_pi cs b) (buckling_capacity upper_pi cs b)
       buckling_figured =
-          let span : 0 < l * l = omega (arith, sizes.short) in
-          let large = buckling_large (factored_modulus b * least_straightness cs * g) (l * l) sizes.from sizes.to sizes.short sizes.long in
+          let large =
+          buckling_large (factored_modulus b) (least_straightness cs) (sum_by second_moment cs) b.length.value (modulus_lies b) straightness_lies
+          second_moment_lies (in_range b.length) in
           figured_once 65536 (buckling_from cube_below cs b) (omega arith) (buckling_capacity lower_pi cs b) (buckling_capacity upper_pi cs b) (omega arith)
-          (omega arith) (subst (λ n. 2000 ≤ n) buckling_is large)
+          (omega arith) large

@@ -1,6 +1,6 @@
 -- How large and how small the shares of a culm are. Assumes nothing.
-use Rattle.std.proofs.Common.{◌≡◌, ℕ, ◌*◌, ◌/◌, ◌^◌, ◌<◌, ◌≤◌, List, [], ◌∷◌, length, sum_by, ◌∙◌, ap₂, mul-le-mul_right, mul-le-mul, arith}
-use Rattle.std.proofs.lemmas.List.Sums.{sum_by-cons}
+use Rattle.std.proofs.Common.{◌≡◌, ℕ, ◌*◌, ◌/◌, ◌^◌, ◌<◌, ◌≤◌, List, [], ◌∷◌, length, slice_index_or, sum_by, ◌∙◌, ap₂, mul-le-mul_right, mul-le-mul, arith}
+use Rattle.std.proofs.lemmas.List.Sums.{sum_by-le, sum_by-cons}
 use Rattle.std.proofs.lemmas.Nat.{div_below, le-div}
 use Rattle.quantities.specs.declared.readings.Readings.{Readings}
 use Rattle.capacity.specs.Shares.{moment_share, shear_share}
@@ -47,16 +47,15 @@ pub second_moment_most : (c : Readings) → second_moment c ≤ 15968023992001
 second_moment_most c = let h : outer_diameter c ≤ 1999 = omega arith in omega (arith, fourth_le h)
 
 -- sums over a list of what is bounded each time
-module _ {X : Type 0} (f : X → ℕ) (b : ℕ) where
-  pub sum_small : ((x : X) → f x ≤ b) → (xs : List X) → sum_by f xs ≤ b * length xs
-  sum_small h [] = omega arith
-  sum_small h (x ∷ xs) = rw (sum_by-cons f x xs) (omega (arith, h x, sum_small h xs))
+pub sum_small : {X : Type 0} (f : X → ℕ) (b : ℕ) → ((x : X) → f x ≤ b) → (xs : List X) → sum_by f xs ≤ length xs * b
+sum_small f b h xs = sum_by-le f b xs (λ k d _. h (slice_index_or xs k d))
 
-  pub sum_large : ((x : X) → b ≤ f x) → (xs : List X) → b * length xs ≤ sum_by f xs
-  sum_large h [] = omega arith
-  sum_large h (x ∷ xs) = rw (sum_by-cons f x xs) (omega (arith, h x, sum_large h xs))
+pub sum_large : {X : Type 0} (f : X → ℕ) (b : ℕ) → ((x : X) → b ≤ f x) → (xs : List X) → b * length xs ≤ sum_by f xs
+sum_large f b h [] = omega arith
+sum_large f b h (x ∷ xs) = rw (sum_by-cons f x xs) (omega (arith, h x, sum_large f b h xs))
 
--- the quotient that the code forms, from terms n and d that are n' and d'
-pub share_is : (k p s q : ℕ) {n d n' d' : ℕ} → n ≡ n' → d ≡ d' → k * p * s * n / (d * q) ≡ s * (k * p * 1 * n') / (1 * (q * d'))
-share_is k p s q {n} {d} en ed =
-    ap₂ (λ x y. k * p * s * x / (y * q)) en ed ∙ ap₂ (λ x y. x / y) (omega arith) (omega arith)
+-- the quotient that the code forms, from factors k', s', n' and d' that are k, s, n and d
+pub share_is : (p q : ℕ) {k' s' n' d' k s n d : ℕ} → k' ≡ k → s' ≡ s → n' ≡ n → d' ≡ d
+    → k' * p * s' * n' / (d' * q) ≡ s * (k * p * 1 * n) / (1 * (q * d))
+share_is p q {n' = n'} {d' = d'} {k = k} {s = s} ek es en ed =
+    ap₂ (λ x y. x * p * y * n' / (d' * q)) ek es ∙ ap₂ (λ x y. k * p * s * x / (y * q)) en ed ∙ ap₂ (λ x y. x / y) (omega arith) (omega arith)

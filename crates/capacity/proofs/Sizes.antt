@@ -1,5 +1,6 @@
 -- How large and how small the terms of a culm are. Assumes nothing.
-use Rattle.std.proofs.Common.{◌≡◌, ℕ, ◌+◌, ◌-◌, ◌*◌, ◌<◌, ◌≤◌, ap, subst, mul-le-mul_right, mul-le-mul, arith}
+use Rattle.std.proofs.Common.{◌≡◌, ℕ, ◌+◌, ◌-◌, ◌*◌, ◌^◌, ◌<◌, ◌≤◌, ap, ◌∙◌, subst, mul-le-mul_right, mul-le-mul, arith}
+use Rattle.std.proofs.Math.Nat.{pow-suc, pow-zero, pow-le-pow_left}
 use native.Mathlib.Nat.{lt_of_mul-lt-mul_left}
 use Rattle.quantities.specs.declared.readings.Readings.{Readings}
 use Rattle.capacity.specs.Terms.{outer_diameter, inner_diameter, ring_area, cubes, second_moment}
@@ -12,6 +13,19 @@ cube_le h = mul-le-mul (square_le h) h
 
 pub fourth_le : {x y : ℕ} → x ≤ y → x * x * x * x ≤ y * y * y * y
 fourth_le h = mul-le-mul (cube_le h) h
+
+pub power_le : {x y : ℕ} (n : ℕ) → x ≤ y → x ^ n ≤ y ^ n
+power_le n h = pow-le-pow_left h n
+
+-- the powers of the code are the products of the definitions
+square_is : (x : ℕ) → x ^ 2 ≡ x * x
+square_is x = pow-suc x 1 ∙ ap (λ n. n * x) (pow-suc x 0 ∙ omega (arith, ap (λ n. n * x) (pow-zero x)))
+
+pub cube_is : (x : ℕ) → x ^ 3 ≡ x * x * x
+cube_is x = pow-suc x 2 ∙ ap (λ n. n * x) (square_is x)
+
+pub fourth_is : (x : ℕ) → x ^ 4 ≡ x * x * x * x
+fourth_is x = pow-suc x 3 ∙ ap (λ n. n * x) (cube_is x)
 
 pub inner_le : (c : Readings) → inner_diameter c ≤ outer_diameter c
 inner_le c = omega arith

@@ -4,3 +4,4 @@ pub mod Capacities
 pub mod Figures
 pub mod Shares
 pub mod Told
+pub mod Alike

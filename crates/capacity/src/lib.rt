@@ -4,10 +4,10 @@
 #![tactic(auto)]
 
 pub mod figures;
-mod parts;
+mod shares;
 pub mod strengths;
 pub mod terms;
 #[cfg(test)]
 mod tests;
 pub mod told;
-mod totals;
+pub mod units;

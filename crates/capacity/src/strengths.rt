@@ -1,4 +1,4 @@
-ghost use Rattle.std.specs.Prelude.{◌≡◌, ◌*◌, ◌≤◌};
+ghost use Rattle.std.specs.Prelude.{◌≡◌};
 ghost use Rattle.quantities.specs.Bundles.{culms_of};
 ghost use Rattle.capacity.specs.Strengths.{redundancy_of, factored_strength, factored_modulus};
 

@@ -1,5 +1,5 @@
-ghost use Rattle.std.specs.Prelude.{◌≡◌, ◌*◌, ◌<◌, ◌≤◌};
-ghost use Rattle.capacity.specs.Terms.{inner_diameter, ring_area, cubes, second_moment, section_modulus, shear_area};
+ghost use Rattle.std.specs.Prelude.{◌≡◌, ◌<◌, ◌≤◌};
+ghost use Rattle.capacity.specs.Terms.{outer_diameter, inner_diameter, ring_area, cubes, second_moment, section_modulus, shear_area};
 
 use quantities::readings::Readings;
 
@@ -10,59 +10,48 @@ pub struct Ratio {
     pub den: u64,
 }
 
+// D, in tenths of a millimetre.
+fn outer_diameter(culm: &Readings) -> u64
+    ensures value { result ≡ outer_diameter culm.now }
+    ensures bound { result ≤ 1999 }
+{
+    u64::from(culm.diameter.value)
+}
+
 // d = D − 2δ, in tenths of a millimetre.
 fn inner_diameter(culm: &Readings) -> u64
-    ensures { result ≡ inner_diameter culm.now }
+    ensures value { result ≡ inner_diameter culm.now }
+    ensures bound { result ≤ 1999 }
 {
-    culm.diameter.value as u64 - 2 * culm.wall.value as u64
+    outer_diameter(culm) - 2 * u64::from(culm.wall.value)
 }
 
-fn square(x: u64) -> u64
-    requires { x ≤ 1999 }
-    ensures value { result ≡ x * x }
-    ensures bound { result ≤ 3996001 }
-{
-    x * x
-}
-
-fn cube(x: u64) -> u64
-    requires { x ≤ 1999 }
-    ensures value { result ≡ x * x * x }
-    ensures bound { result ≤ 7988005999 }
-{
-    square(x) * x
-}
-
-fn fourth(x: u64) -> u64
-    requires { x ≤ 1999 }
-    ensures value { result ≡ x * x * x * x }
-    ensures bound { result ≤ 15968023992001 }
-{
-    cube(x) * x
-}
+// Each term by its own name and limit, as the rules have them.
 
 // D² − d²
 pub fn ring_area(culm: &Readings) -> u64
     ensures value { result ≡ ring_area culm.now }
     ensures bound { result ≤ 3996001 }
 {
-    square(culm.diameter.value as u64) - square(inner_diameter(culm))
+    outer_diameter(culm).pow(2) - inner_diameter(culm).pow(2)
 }
 
 // D³ − d³
+#[tactic(auto, using(crate::proofs::Sizes::power_le, crate::proofs::Sizes::inner_le, crate::proofs::Sizes::cube_is))]
 fn cubes_apart(culm: &Readings) -> u64
     ensures value { result ≡ cubes culm.now }
     ensures bound { result ≤ 7988005999 }
 {
-    cube(culm.diameter.value as u64) - cube(inner_diameter(culm))
+    outer_diameter(culm).pow(3) - inner_diameter(culm).pow(3)
 }
 
 // D⁴ − d⁴
+#[tactic(auto, using(crate::proofs::Sizes::power_le, crate::proofs::Sizes::inner_le, crate::proofs::Sizes::fourth_is))]
 pub fn second_moment(culm: &Readings) -> u64
     ensures value { result ≡ second_moment culm.now }
     ensures bound { result ≤ 15968023992001 }
 {
-    fourth(culm.diameter.value as u64) - fourth(inner_diameter(culm))
+    outer_diameter(culm).pow(4) - inner_diameter(culm).pow(4)
 }
 
 // (D⁴ − d⁴) / D
@@ -75,7 +64,7 @@ pub fn section_modulus(culm: &Readings) -> Ratio
 {
     Ratio {
         num: second_moment(culm),
-        den: culm.diameter.value as u64,
+        den: outer_diameter(culm),
     }
 }
 
@@ -88,7 +77,7 @@ pub fn shear_area(culm: &Readings) -> Ratio
     ensures few { result.den ≤ 63904047992 }
 {
     Ratio {
-        num: 3 * culm.wall.value as u64 * second_moment(culm),
+        num: 3 * u64::from(culm.wall.value) * second_moment(culm),
         den: 8 * cubes_apart(culm),
     }
 }

@@ -1,15 +1,22 @@
 use crate::told::{Capacity, tell};
 use quantities::basis::DesignBasis;
 use quantities::bundle::Bundle;
-use quantities::class::{RawFactors, ServiceClass};
+use quantities::class::{RawClass, RawFactors, ServiceClass};
 use quantities::duration::Duration;
 use quantities::fault::MeasureFault;
-use quantities::grade::Grade;
-use quantities::numbers::effective_length;
-use quantities::readings::Readings;
+use quantities::grade::{Grade, RawGrade};
+use quantities::numbers::EffectiveLength;
+use quantities::readings::{RawReadings, Readings};
 use std::test::Fail;
 
 fn basis(duration: Duration) -> Result<DesignBasis, MeasureFault> {
+    let grade = RawGrade {
+        bending: 658,
+        compression: 497,
+        tension: 984,
+        shear: 79,
+        modulus: 1300,
+    };
     let strength = RawFactors {
         permanent: 55,
         transient: 65,
@@ -21,11 +28,20 @@ fn basis(duration: Duration) -> Result<DesignBasis, MeasureFault> {
         instantaneous: 100,
     };
     Ok(DesignBasis {
-        grade: Grade::measured(3, 658, 497, 984, 79, 1300)?,
-        class: ServiceClass::measured(3, strength, modulus)?,
+        grade: Grade::measured(3, grade)?,
+        class: ServiceClass::measured(3, RawClass { strength, modulus })?,
         duration,
-        length: effective_length(3, 2000)?,
+        length: EffectiveLength::in_field(3, 2000)?,
     })
+}
+
+fn straight_culm(diameter: u32, wall: u32) -> Result<Readings, MeasureFault> {
+    let raw = RawReadings {
+        diameter,
+        wall,
+        straightness: 100,
+    };
+    Readings::measured(4, raw)
 }
 
 // Whether a value between two whole numbers lies in the told pair.
@@ -37,8 +53,7 @@ fn lies_in(capacity: Capacity, bundle: &Bundle, below: u64, above: u64) -> bool 
 // Values worked out elsewhere: 1458.826, 2153.457, 106418.938, 53750.216 and 92960.693.
 #[test]
 fn each_capacity_of_the_worked_culm_lies_in_its_told_pair(rt: HostRuntime) -> Result<(), Fail> {
-    let culm = Readings::measured(4, 1000, 100, 100)?;
-    let bundle = Bundle::of(culm, basis(Duration::Instantaneous)?);
+    let bundle = Bundle::of(straight_culm(1000, 100)?, basis(Duration::Instantaneous)?);
     assert!(rt; lies_in(Capacity::Moment, &bundle, 1458, 1459));
     assert!(rt; lies_in(Capacity::Shear, &bundle, 2153, 2154));
     assert!(rt; lies_in(Capacity::Tension, &bundle, 106418, 106419));
@@ -49,7 +64,7 @@ fn each_capacity_of_the_worked_culm_lies_in_its_told_pair(rt: HostRuntime) -> Re
 
 #[test]
 fn three_narrow_culms_carry_1000_newton_metres_and_two_do_not(rt: HostRuntime) -> Result<(), Fail> {
-    let culm = Readings::measured(4, 700, 70, 100)?;
+    let culm = straight_culm(700, 70)?;
     let mut bundle = Bundle::of(culm, basis(Duration::Transient)?);
     bundle.add(culm)?;
     assert!(rt; tell(Capacity::Moment, &bundle).upper < 1000);

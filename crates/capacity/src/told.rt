@@ -1,4 +1,4 @@
-ghost use Rattle.std.specs.Prelude.{◌*◌, ◌^◌, ◌<◌};
+ghost use Rattle.std.specs.Prelude.{◌^◌, ◌<◌, ◌≤◌};
 ghost use Rattle.exact.specs.Fraction.{Fraction};
 ghost use Rattle.exact.specs.Rounding.{Figured};
 ghost use Rattle.quantities.specs.Bundles.{culms_of};
@@ -8,6 +8,7 @@ ghost use Rattle.capacity.specs.Told.{capacity_of, Tells};
 use crate::figures::{
     buckling_figure, crushing_figure, moment_figure, shear_figure, tension_figure,
 };
+use crate::units::Figure;
 use quantities::bundle::Bundle;
 
 // The five capacities: M_r, V_r, N_t, P_c and P_e.
@@ -27,18 +28,18 @@ pub struct Told {
     pub upper: u64,
 }
 
-const MOMENT_SCALE: u64 = 32768;
-
-const FORCE_SCALE: u64 = 65536;
-
-// The pair that a figure gives, which has so many to the unit.
-fn told_from(figure: u64, scale: u64) -> Told
-    requires { (figure < 2 ^ 46) × ((0 < scale) × (scale < 2 ^ 17)) }
-    ensures { (low high : Fraction) → Figured figure scale low high → Tells result low high }
-{
-    Told {
-        lower: figure / scale,
-        upper: figure * 1001 / (scale * 1000) + 1,
+impl<const SCALE: u32, const LIMIT: u64> Figure<SCALE, LIMIT> {
+    // The pair that a figure gives.
+    fn told(&self) -> Told
+        requires scale { (0 < SCALE) × (SCALE < 2 ^ 17) }
+        requires limit { LIMIT ≤ 2 ^ 46 }
+        ensures { (low high : Fraction) → Figured self.now.units SCALE low high → Tells result low high }
+    {
+        let scale = u64::from(SCALE);
+        Told {
+            lower: self.units / scale,
+            upper: self.units * 1001 / (scale * 1000) + 1,
+        }
     }
 }
 
@@ -47,10 +48,10 @@ pub fn tell(capacity: Capacity, bundle: &Bundle) -> Told
     ensures { Tells result (capacity_of capacity lower_pi (culms_of bundle.now) bundle.now.basis) (capacity_of capacity upper_pi (culms_of bundle.now) bundle.now.basis) }
 {
     match capacity {
-        Capacity::Moment => told_from(moment_figure(bundle), MOMENT_SCALE),
-        Capacity::Shear => told_from(shear_figure(bundle), FORCE_SCALE),
-        Capacity::Tension => told_from(tension_figure(bundle), FORCE_SCALE),
-        Capacity::Crushing => told_from(crushing_figure(bundle), FORCE_SCALE),
-        Capacity::Buckling => told_from(buckling_figure(bundle), FORCE_SCALE),
+        Capacity::Moment => moment_figure(bundle).told(),
+        Capacity::Shear => shear_figure(bundle).told(),
+        Capacity::Tension => tension_figure(bundle).told(),
+        Capacity::Crushing => crushing_figure(bundle).told(),
+        Capacity::Buckling => buckling_figure(bundle).told(),
     }
 }

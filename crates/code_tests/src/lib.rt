@@ -6,16 +6,16 @@
 mod tests {
     use design_code::appraisal::appraise;
     use design_code::joined::Joined;
-    use design_code::verdict::Verdict;
+    use design_code::verdict::{Refused, Verdict};
     use quantities::basis::DesignBasis;
     use quantities::bundle::Bundle;
-    use quantities::class::{RawFactors, ServiceClass};
+    use quantities::class::{RawClass, RawFactors, ServiceClass};
     use quantities::duration::Duration;
     use quantities::fault::MeasureFault;
-    use quantities::forces::Forces;
-    use quantities::grade::Grade;
+    use quantities::forces::{Forces, RawForces};
+    use quantities::grade::{Grade, RawGrade};
     use quantities::numbers::EffectiveLength;
-    use quantities::readings::Readings;
+    use quantities::readings::{RawReadings, Readings};
     use shop_code::bending::BendingCode;
     use shop_code::compression::CompressionCode;
     use shop_code::shear::ShearCode;
@@ -24,33 +24,65 @@ mod tests {
 
     // Grade, class and length of all the examples.
     fn basis(duration: Duration) -> Result<DesignBasis, MeasureFault> {
-        let strength = RawFactors {
-            permanent: 55,
-            transient: 65,
-            instantaneous: 85,
+        let grade = RawGrade {
+            bending: 658,
+            compression: 497,
+            tension: 984,
+            shear: 79,
+            modulus: 1300,
         };
-        let modulus = RawFactors {
-            permanent: 45,
-            transient: 95,
-            instantaneous: 100,
+        let class = RawClass {
+            strength: RawFactors {
+                permanent: 55,
+                transient: 65,
+                instantaneous: 85,
+            },
+            modulus: RawFactors {
+                permanent: 45,
+                transient: 95,
+                instantaneous: 100,
+            },
         };
         Ok(DesignBasis {
-            grade: Grade::measured(3, 658, 497, 984, 79, 1300)?,
-            class: ServiceClass::measured(3, strength, modulus)?,
+            grade: Grade::measured(3, grade)?,
+            class: ServiceClass::measured(3, class)?,
             duration,
             length: EffectiveLength::in_field(3, 2000)?,
         })
     }
 
+    fn straight_culm(diameter: u32, wall: u32) -> Result<Readings, MeasureFault> {
+        let raw = RawReadings {
+            diameter,
+            wall,
+            straightness: 100,
+        };
+        Readings::measured(4, raw)
+    }
+
+    fn forces(axial: i32, shear: u32, moment: u32) -> Result<Forces, MeasureFault> {
+        let raw = RawForces {
+            axial,
+            shear,
+            moment,
+        };
+        Forces::measured(6, raw)
+    }
+
+    // Refused by a clause.
+    const fn by(clause: u32) -> Verdict {
+        Err(Refused { clause })
+    }
+
     // One culm of 100.0 mm with a wall of 10.0 mm under an instantaneous load.
     fn worked_culm() -> Result<Bundle, MeasureFault> {
-        let culm = Readings::measured(4, 1000, 100, 100)?;
+        let culm = straight_culm(1000, 100)?;
         Ok(Bundle::of(culm, basis(Duration::Instantaneous)?))
     }
 
     // So many Moso culms of 70.0 mm with a wall of 7.0 mm.
     fn moso_culms(count: u32, duration: Duration) -> Result<Bundle, Fail> {
-        let culm = Readings::measured(4, 700, 70, 100)?;
+        let culm = straight_culm(700, 70)?;
         let mut bundle = Bundle::of(culm, basis(duration)?);
         for _ in 1..count {
             bundle.add(culm)?;
@@ -72,19 +104,19 @@ mod tests {
     ) -> Result<(), Fail> {
         let culm = worked_culm()?;
         let loads = [
-            Load(0, 0, 1456, Verdict::Met),
-            Load(0, 2150, 0, Verdict::Met),
-            Load(-106300, 0, 0, Verdict::Met),
-            Load(45100, 0, 0, Verdict::Met),
-            Load(20000, 0, 630, Verdict::Met),
-            Load(0, 0, 1459, Verdict::Refused(1)),
-            Load(0, 2154, 0, Verdict::Refused(2)),
-            Load(-106500, 0, 0, Verdict::Refused(3)),
-            Load(45200, 0, 0, Verdict::Refused(4)),
-            Load(20000, 0, 645, Verdict::Refused(4)),
+            Load(0, 0, 1456, Ok(())),
+            Load(0, 2150, 0, Ok(())),
+            Load(-106300, 0, 0, Ok(())),
+            Load(45100, 0, 0, Ok(())),
+            Load(20000, 0, 630, Ok(())),
+            Load(0, 0, 1459, by(1)),
+            Load(0, 2154, 0, by(2)),
+            Load(-106500, 0, 0, by(3)),
+            Load(45200, 0, 0, by(4)),
+            Load(20000, 0, 645, by(4)),
         ];
         for load in &loads {
-            let forces = Forces::measured(6, load.0, load.1, load.2)?;
+            let forces = forces(load.0, load.1, load.2)?;
             assert_eq!(rt; shop_verdict(&culm, forces), load.3);
         }
         Ok(())
@@ -95,21 +127,21 @@ mod tests {
     #[test]
     fn moso_purlins_need_as_many_culms_as_published(rt: HostRuntime) -> Result<(), Fail> {
         let purlins = [
-            Purlin(3, Duration::Instantaneous, 1800, 1000, Verdict::Met),
-            Purlin(3, Duration::Transient, 1700, 1000, Verdict::Met),
-            Purlin(2, Duration::Instantaneous, 1800, 1000, Verdict::Met),
-            Purlin(2, Duration::Transient, 1700, 1000, Verdict::Refused(1)),
-            Purlin(4, Duration::Instantaneous, 2200, 1640, Verdict::Met),
-            Purlin(4, Duration::Transient, 2200, 1640, Verdict::Met),
-            Purlin(3, Duration::Instantaneous, 2200, 1640, Verdict::Met),
-            Purlin(3, Duration::Transient, 2200, 1640, Verdict::Refused(1)),
-            Purlin(1, Duration::Instantaneous, 600, 300, Verdict::Met),
-            Purlin(1, Duration::Transient, 600, 300, Verdict::Met),
-            Purlin(4, Duration::Permanent, 2000, 1500, Verdict::Met),
-            Purlin(3, Duration::Permanent, 2000, 1500, Verdict::Refused(1)),
+            Purlin(3, Duration::Instantaneous, 1800, 1000, Ok(())),
+            Purlin(3, Duration::Transient, 1700, 1000, Ok(())),
+            Purlin(2, Duration::Instantaneous, 1800, 1000, Ok(())),
+            Purlin(2, Duration::Transient, 1700, 1000, by(1)),
+            Purlin(4, Duration::Instantaneous, 2200, 1640, Ok(())),
+            Purlin(4, Duration::Transient, 2200, 1640, Ok(())),
+            Purlin(3, Duration::Instantaneous, 2200, 1640, Ok(())),
+            Purlin(3, Duration::Transient, 2200, 1640, by(1)),
+            Purlin(1, Duration::Instantaneous, 600, 300, Ok(())),
+            Purlin(1, Duration::Transient, 600, 300, Ok(())),
+            Purlin(4, Duration::Permanent, 2000, 1500, Ok(())),
+            Purlin(3, Duration::Permanent, 2000, 1500, by(1)),
         ];
         for purlin in &purlins {
-            let forces = Forces::measured(6, 0, purlin.2, purlin.3)?;
+            let forces = forces(0, purlin.2, purlin.3)?;
             let bundle = moso_culms(purlin.0, purlin.1)?;
             assert_eq!(rt; shop_verdict(&bundle, forces), purlin.4);
         }
@@ -120,23 +152,23 @@ mod tests {
     fn bending_joined_with_itself_asks_for_nothing_but_bending(
         rt: HostRuntime,
     ) -> Result<(), Fail> {
-        let code = Joined(BendingCode {}, BendingCode {});
+        let code = Joined(BendingCode, BendingCode);
         let culm = worked_culm()?;
-        let sheared = Forces::measured(6, 45200, 2154, 1456)?;
-        let bent = Forces::measured(6, 0, 0, 1459)?;
-        assert_eq!(rt; appraise(&code, &culm, sheared), Verdict::Met);
-        assert_eq!(rt; appraise(&code, &culm, bent), Verdict::Refused(1));
+        let sheared = forces(45200, 2154, 1456)?;
+        let bent = forces(0, 0, 1459)?;
+        assert_eq!(rt; appraise(&code, &culm, sheared), Ok(()));
+        assert_eq!(rt; appraise(&code, &culm, bent), by(1));
         Ok(())
     }
 
     #[test]
     fn of_joined_codes_the_first_to_refuse_decides(rt: HostRuntime) -> Result<(), Fail> {
         let culm = worked_culm()?;
-        let forces = Forces::measured(6, 45200, 2154, 1459)?;
-        let backwards = Joined(CompressionCode {}, Joined(ShearCode {}, BendingCode {}));
-        assert_eq!(rt; shop_verdict(&culm, forces), Verdict::Refused(1));
-        assert_eq!(rt; appraise(&backwards, &culm, forces), Verdict::Refused(4));
-        assert_eq!(rt; appraise(&backwards.1, &culm, forces), Verdict::Refused(2));
+        let forces = forces(45200, 2154, 1459)?;
+        let backwards = Joined(CompressionCode, Joined(ShearCode, BendingCode));
+        assert_eq!(rt; shop_verdict(&culm, forces), by(1));
+        assert_eq!(rt; appraise(&backwards, &culm, forces), by(4));
+        assert_eq!(rt; appraise(&backwards.1, &culm, forces), by(2));
         Ok(())
     }
 }

@@ -5,7 +5,7 @@ use Rattle.quantities.specs.declared.basis.DesignBasis.{DesignBasis}
 use Rattle.quantities.specs.declared.forces.Forces.{Forces}
 use Rattle.quantities.specs.declared.readings.Readings.{Readings}
 use Rattle.design_code.specs.Meaning.{Meaning, Sound, Bundled, Judged}
-use Rattle.design_code.specs.declared.verdict.Verdict.{Verdict}
+use Rattle.design_code.specs.Verdicts.{Verdict}
 
 pub worth : (m : Meaning) → Sound m → (cs : List Readings) (b : DesignBasis) (f : Forces) (v : Verdict) → Bundled cs
     → v ≡ m.rule cs b f → Judged m cs b f v

@@ -1,26 +1,26 @@
 -- Two sound codes joined are sound. Assumes nothing.
-use Rattle.std.specs.Prelude.{◌⊎◌, ◌≡◌, refl, ℕ}
+use Rattle.std.specs.Prelude.{◌⊎◌, ◌≡◌, refl, ℕ, Ok, Err}
 use Rattle.std.proofs.Common.{inl, inr, subst}
 use Rattle.design_code.specs.Meaning.{Meaning, Sound, first, joined_with}
-use Rattle.design_code.specs.declared.verdict.Verdict.{Verdict}
-use Rattle.design_code.specs.declared.verdict.Verdict.TheVariants.{Met, Refused}
+use Rattle.design_code.specs.Verdicts.{Verdict, all_met, refused_by}
+use Rattle.design_code.specs.declared.verdict.Refused.{Refused}
 
 -- P of a met verdict, nothing of a refusal
 abbrev where_met : Type 0 → Verdict → Type 0
-where_met P Met = P
-where_met P (Refused k) = Unit {0}
+where_met P (Ok _) = P
+where_met P (Err r) = Unit {0}
 
-pub apart : {P : Type 0} (k : ℕ) → Refused k ≡ Met → P
-apart {P = P} k e = subst (where_met P) e tt
+pub apart : {P : Type 0} (r : Refused) → Err r ≡ all_met → P
+apart {P = P} r e = subst (where_met P) e tt
 
 -- where the first of two is refused, the refusal is its own; else the second's
-pub first_refused : (v w : Verdict) (k : ℕ) → first v w ≡ Refused k → (v ≡ Refused k) ⊎ (w ≡ Refused k)
-first_refused Met w k e = inr e
-first_refused (Refused j) w k e = inl e
+pub first_refused : (v w : Verdict) (k : ℕ) → first v w ≡ refused_by k → (v ≡ refused_by k) ⊎ (w ≡ refused_by k)
+first_refused (Ok _) w k e = inr e
+first_refused (Err r) w k e = inl e
 
-pub first_met : (v w : Verdict) → first v w ≡ Met → (v ≡ Met) × (w ≡ Met)
-first_met Met w e = (refl, e)
-first_met (Refused j) w e = apart j e
+pub first_met : (v w : Verdict) → first v w ≡ all_met → (v ≡ all_met) × (w ≡ all_met)
+first_met (Ok _) w e = (refl, e)
+first_met (Err r) w e = apart r e
 
 pub joined_sound : (x y : Meaning) → Sound x → Sound y → Sound (joined_with x y)
 joined_sound x y p q = record {

@@ -1,3 +1,4 @@
+pub mod Verdicts
 pub mod Loads
 pub mod Meaning
 pub mod Joining

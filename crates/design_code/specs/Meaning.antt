@@ -1,13 +1,12 @@
 -- What a design code means, and what makes one sound. Assumes nothing.
-use Rattle.std.specs.Prelude.{List, ◌⊎◌, ◌≡◌, ℕ, ◌≤◌, ◌<◌, length}
+use Rattle.std.specs.Prelude.{List, ◌⊎◌, ◌≡◌, ℕ, ◌≤◌, ◌<◌, length, Ok, Err}
 use Rattle.exact.specs.Fraction.{Fraction}
 use Rattle.exact.specs.Pi.{lower_pi, upper_pi}
 use Rattle.quantities.specs.declared.basis.DesignBasis.{DesignBasis}
 use Rattle.quantities.specs.declared.forces.Forces.{Forces}
 use Rattle.quantities.specs.declared.readings.Readings.{Readings}
 use Rattle.design_code.specs.Loads.{Load, recorded, grown, Proper, SameLoad}
-use Rattle.design_code.specs.declared.verdict.Verdict.{Verdict}
-use Rattle.design_code.specs.declared.verdict.Verdict.TheVariants.{Met, Refused}
+use Rattle.design_code.specs.Verdicts.{Verdict, all_met, refused_by}
 
 -- the verdict on a bundle under forces
 abbrev pub Rule : Type 0
@@ -31,16 +30,16 @@ pub record Bundled (cs : List Readings) : Type 0 where
 -- the two facts, and that equal fractions count alike
 pub record Sound (m : Meaning) : Type 0 where
   pub met : (cs : List Readings) (b : DesignBasis) (f : Forces) → Bundled cs
-      → m.rule cs b f ≡ Met → (k : ℕ) → m.has k → m.relation k cs b (recorded f) lower_pi
+      → m.rule cs b f ≡ all_met → (k : ℕ) → m.has k → m.relation k cs b (recorded f) lower_pi
   pub refused : (cs : List Readings) (b : DesignBasis) (f : Forces) → Bundled cs
-      → (k : ℕ) → m.rule cs b f ≡ Refused k → m.has k × (m.relation k cs b (grown f) upper_pi → ⊥)
+      → (k : ℕ) → m.rule cs b f ≡ refused_by k → m.has k × (m.relation k cs b (grown f) upper_pi → ⊥)
   pub alike : (k : ℕ) (cs : List Readings) (b : DesignBasis) (l n : Load) (p : Fraction) → Bundled cs → 0 < p.num → 0 < p.den
       → Proper l → Proper n → SameLoad l n → m.relation k cs b l p → m.relation k cs b n p
 
 -- the first verdict, and where that is met the second
 abbrev pub first : Verdict → Verdict → Verdict
-first Met w = w
-first (Refused k) w = Refused k
+first (Ok _) w = w
+first (Err r) w = Err r
 
 -- two codes joined: a number that both have means both relations together
 abbrev pub joined_with : Meaning → Meaning → Meaning
@@ -53,5 +52,5 @@ joined_with x y = record {
 -- what a verdict is worth: met, and every relation holds exactly; refused, and the load grown a little breaks the clause named
 pub record Judged (m : Meaning) (cs : List Readings) (b : DesignBasis) (f : Forces) (v : Verdict) : Type 0 where
   pub by_the_rule : v ≡ m.rule cs b f
-  pub met : v ≡ Met → (k : ℕ) → m.has k → m.relation k cs b (recorded f) lower_pi
-  pub refused : (k : ℕ) → v ≡ Refused k → m.has k × (m.relation k cs b (grown f) upper_pi → ⊥)
+  pub met : v ≡ all_met → (k : ℕ) → m.has k → m.relation k cs b (recorded f) lower_pi
+  pub refused : (k : ℕ) → v ≡ refused_by k → m.has k × (m.relation k cs b (grown f) upper_pi → ⊥)

@@ -3,7 +3,7 @@ ghost use Rattle.quantities.specs.Bundles.{culms_of};
 ghost use Rattle.quantities.specs.declared.bundle.Bundle.{Bundle};
 ghost use Rattle.quantities.specs.declared.forces.Forces.{Forces};
 ghost use Rattle.design_code.specs.Meaning.{Meaning, Sound};
-ghost use Rattle.design_code.specs.declared.verdict.Verdict.{Verdict};
+ghost use Rattle.design_code.specs.Verdicts.{Verdict};
 
 use crate::verdict::Verdict;
 use quantities::bundle::Bundle;

@@ -31,9 +31,7 @@ impl<A: DesignCode, B: DesignCode> DesignCode for Joined<A, B> {
     }
 
     fn judge(&self, figures: &(A::Figures, B::Figures), forces: Forces) -> Verdict {
-        match self.0.judge(&figures.0, forces) {
-            Verdict::Met => self.1.judge(&figures.1, forces),
-            Verdict::Refused(clause) => Verdict::Refused(clause),
-        }
+        self.0.judge(&figures.0, forces)?;
+        self.1.judge(&figures.1, forces)
     }
 }

@@ -2,8 +2,8 @@ ghost use Rattle.std.specs.Prelude.{◌≡◌, ◌+◌, ◌*◌, ◌^◌, ◌<�
 
 const HALF: u128 = 0x1_0000_0000_0000_0000;
 
-// A product of 256 bits: high × 2^128 + low.
-#[derive(Clone, Copy)]
+// A product of 256 bits: high × 2^128 + low. The order is that of the fields.
+#[derive(Clone, Copy, PartialEq, Eq, PartialOrd, Ord)]
 struct Wide {
     high: u128,
     low: u128,
@@ -43,7 +43,7 @@ pub fn product_le(a: u128, b: u128, c: u128, d: u128) -> bool
 {
     let left = wide_product(a, b);
     let right = wide_product(c, d);
-    left.high < right.high || left.high == right.high && left.low <= right.low
+    left <= right
 }
 
 #[cfg(test)]

@@ -1,5 +1,5 @@
 -- The rows past the limits, through no call, and through one call and another. Assumes nothing.
-use Rattle.std.proofs.Common.{◌≡◌, ℕ, drop, refl, ◌∙◌, subst}
+use Rattle.std.proofs.Common.{◌≡◌, ℕ, drop, ◌∙◌, subst}
 use Rattle.stock.specs.Stocks.{Beyond}
 use Rattle.stock.specs.declared.stock.Stock.{Stock}
 use Rattle.frame_book.specs.Books.{Past}
@@ -10,9 +10,6 @@ beyond_beyond {a} {b} {c} p q = record {
   limit = q.limit ∙ p.limit;
   rows = subst (λ (n : ℕ). drop n c.rows.rows.now ≡ drop n b.rows.rows.now) p.limit q.rows ∙ p.rows;
 }
-
-pub past_none : (b : Book) → Past b b
-past_none b = record { culms = record { limit = refl; rows = refl }; member_limit = refl; members = refl }
 
 pub past_past : {a b c : Book} → Past a b → Past b c → Past a c
 past_past {a} {b} {c} p q = record {

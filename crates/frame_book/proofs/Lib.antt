@@ -1,5 +1,3 @@
-pub mod Measured
 pub mod Rows
-pub mod Traded
-pub mod Telling
 pub mod Frames
+pub mod Refusals

@@ -1,4 +1,3 @@
 pub mod Books
-pub mod Calls
 pub mod Tickets
 pub mod Looks

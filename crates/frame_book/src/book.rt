@@ -1,8 +1,4 @@
 ghost use Rattle.std.specs.Prelude.{◌≡◌, length};
-ghost use Rattle.keyed_table.specs.Tables.{Sound, content};
-ghost use Rattle.ledger.specs.Ledger.{member_key};
-ghost use Rattle.stock.specs.Rows.{row_key, aside_count};
-ghost use Rattle.stock.specs.Stocks.{held, Small};
 
 use keyed_table::Table;
 use ledger::member::Member;
@@ -19,6 +15,7 @@ mod members;
 mod new;
 mod obey;
 mod opening;
+mod rows;
 mod tickets;
 
 // The most member rows that a book uses, and the most tickets that are open at a time.
@@ -33,10 +30,6 @@ pub struct Book<'a> {
     members: Table<'a, Member>,
     grades: [Option<Grade>; 8],
     classes: [Option<ServiceClass>; 3],
-    ghost stock_sound: { Sound row_key stock.rows },
-    ghost none_aside: { aside_count (content stock.rows) ≡ 0 },
-    ghost bundles_small: { Small (held stock) },
-    ghost members_sound: { Sound member_key members },
     ghost eight: { length grades ≡ 8 },
     ghost three: { length classes ≡ 3 },
 }

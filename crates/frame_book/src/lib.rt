@@ -4,6 +4,4 @@
 
 mod appraising;
 pub mod book;
-mod places;
-mod stage;
 pub mod ticket;

@@ -1,99 +1,92 @@
 ghost use Rattle.std.specs.Prelude.{◌≡◌, true};
-ghost use Rattle.frame_book.specs.Tickets.{number_on, fault_only};
+ghost use Rattle.frame_book.specs.Tickets.{number_on, in_hand};
 
 use ledger::fault::BookFault;
+use std::marker::PhantomData;
 
-// A ticket in hand that is not judged. Only a ticket that is used up may be let go.
-pub struct Unjudged {
+// The states of a ticket.
+#[derive(Clone, Copy)]
+pub struct Unjudged;
+
+#[derive(Clone, Copy)]
+pub struct Judged;
+
+// A ticket in hand, judged or not, by the number of its member. Only a ticket that is used up may be let go: a rule of the book, which
+// its drop keeps by asking for `spent`.
+pub struct Ticket<S> {
     pub(crate) number: u32,
-    pub(crate) spent: bool,
+    spent: bool,
+    state: PhantomData<S>,
 }
 
-// A ticket in hand that is judged.
-pub struct Judged {
-    pub(crate) number: u32,
-    pub(crate) spent: bool,
+// A ticket in hand in either state.
+pub enum AnyTicket {
+    Unjudged(Ticket<Unjudged>),
+    Judged(Ticket<Judged>),
 }
 
-// A ticket in hand.
-pub enum Ticket {
-    Unjudged(Unjudged),
-    Judged(Judged),
-}
-
-impl Drop for Unjudged {
+impl<S> Drop for Ticket<S> {
     fn drop(self)
         requires { self.spent ≡ true }
     {
-        let Unjudged {
+        let Ticket {
             number: _,
             spent: _,
+            state: _,
         } = self;
     }
 }
 
-impl Drop for Judged {
-    fn drop(self)
-        requires { self.spent ≡ true }
+impl<S> Ticket<S> {
+    pub(crate) fn of(number: u32) -> Ticket<S>
+        ensures { result ≡ in_hand number }
     {
-        let Judged {
-            number: _,
-            spent: _,
-        } = self;
+        Ticket {
+            number,
+            spent: false,
+            state: PhantomData,
+        }
+    }
+
+    // The ticket is used up.
+    pub(crate) fn spend(mut self) {
+        self.spent = true;
+    }
+
+    // The fault of a refusal whose ticket nobody keeps.
+    pub(crate) fn let_go(refused: (BookFault, Ticket<S>)) -> BookFault
+        ensures { result ≡ refused.0 }
+    {
+        let (fault, ticket) = refused;
+        ticket.spend();
+        fault
     }
 }
 
-impl Ticket {
+impl AnyTicket {
     // The number of its member.
     pub fn number(&self) -> u32
         ensures { result ≡ number_on self.now }
     {
         match self {
-            Ticket::Unjudged(t) => t.number,
-            Ticket::Judged(t) => t.number,
+            AnyTicket::Unjudged(ticket) => ticket.number,
+            AnyTicket::Judged(ticket) => ticket.number,
         }
     }
-}
 
-// The ticket is used up.
-pub(crate) fn spend_unjudged(t: Unjudged) {
-    let mut t = t;
-    t.spent = true;
-}
-
-pub(crate) fn spend_judged(t: Judged) {
-    let mut t = t;
-    t.spent = true;
-}
-
-pub(crate) fn spend(t: Ticket) {
-    match t {
-        Ticket::Unjudged(t) => spend_unjudged(t),
-        Ticket::Judged(t) => spend_judged(t),
-    }
-}
-
-// A refusal of a ticket that nobody keeps.
-pub(crate) fn let_go(r: Result<(), (BookFault, Ticket)>) -> Result<(), BookFault>
-    ensures { result ≡ fault_only r }
-{
-    match r {
-        Ok(()) => Ok(()),
-        Err((fault, t)) => {
-            spend(t);
-            Err(fault)
+    // The ticket is used up.
+    pub(crate) fn spend(self) {
+        match self {
+            AnyTicket::Unjudged(ticket) => ticket.spend(),
+            AnyTicket::Judged(ticket) => ticket.spend(),
         }
     }
-}
 
-pub(crate) fn let_judged_go(r: Result<(), (BookFault, Judged)>) -> Result<(), BookFault>
-    ensures { result ≡ fault_only r }
-{
-    match r {
-        Ok(()) => Ok(()),
-        Err((fault, t)) => {
-            spend_judged(t);
-            Err(fault)
-        }
+    pub(crate) fn let_go(refused: (BookFault, AnyTicket)) -> BookFault
+        ensures { result ≡ refused.0 }
+    {
+        let (fault, ticket) = refused;
+        ticket.spend();
+        fault
     }
 }

@@ -1,6 +1,5 @@
 pub mod Orders
 pub mod Places
-pub mod Overwriting
 pub mod ByNumber
 pub mod Frames
 pub mod Lookups

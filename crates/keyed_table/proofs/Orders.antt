@@ -1,6 +1,9 @@
 -- Rows whose numbers rise, and that a change keeps the order. It assumes nothing.
-use Rattle.std.proofs.Common.{◌≡◌, ℕ, zero, suc, ◌+◌, ◌-◌, ◌<◌, ◌≤◌, cond, eqb, ltb, List, [], ◌∷◌, map, length, get_or, sym, refl, ap, subst, add-zero, arith}
-use Rattle.std.proofs.lemmas.Bool.{cond_both, eqb-true, ltb-true, ltb-false}
+use Rattle.std.proofs.Common.{◌≡◌, ℕ, zero, suc, ◌+◌, ◌-◌, ◌<◌, ◌≤◌, cond, eqb, List, [], ◌∷◌, map, length, get_or, sym, ap, ◌∙◌, add-zero, arith}
+use mathlib.Core.List.{map-map}
+use Rattle.std.proofs.Math.ListN.{get_or-map}
+use Rattle.std.proofs.lemmas.List.{length-map}
+use Rattle.std.proofs.lemmas.Grind.{common_steps}
 use Rattle.keyed_table.specs.Rows.{StrictlyRising, NoRowHas, added, without, replaced}
 
 -- any two rows rise
@@ -57,34 +60,30 @@ module _ {X : Type 0} (key : X → ℕ) where
   pub lacks_tail : (n : ℕ) (x : X) (xs : List X) → NoRowHas key n (x ∷ xs) → NoRowHas key n xs
   lacks_tail n x xs a i d h e = a (suc i) d (omega arith) e
 
-  -- a change keeps the order
-  from_map : (f : X → X) → ((x : X) → key (f x) ≡ key x) → (n : ℕ) (xs : List X) → From key n xs → From key n (map f xs)
-  from_map f e n [] a = tt
-  from_map f e n (x ∷ xs) a =
-      (omega (arith, e x, a.0), subst (λ k. From key (suc k) (map f xs)) (sym (e x)) (from_map f e (suc (key x)) xs a.1))
+  -- the order is one of numbers alone
+  pub rising_same : (xs ys : List X) → map key ys ≡ map key xs → StrictlyRising key xs → StrictlyRising key ys
+  rising_same xs ys e r i d h =
+      let at : (k : ℕ) → key (get_or ys k d) ≡ key (get_or xs k d) = λ k. sym (get_or-map key ys k d) ∙ (ap (λ ns. get_or ns k (key d)) e ∙ get_or-map key xs k d) in
+      let long = sym (length-map ys key) ∙ (ap length e ∙ length-map xs key) in
+      omega (arith, at i, at (i + 1), r i d (omega (arith, long)))
 
   from_without : (n m : ℕ) (xs : List X) → From key m xs → From key m (without key n xs)
   from_without n m [] f = tt
   from_without n m (x ∷ xs) f =
       let rest = from_without n (suc (key x)) xs f.1 in
-      cond_both (eqb (key x) n) (without key n xs) (x ∷ without key n xs) (From key m)
-      (λ t. from_lower m (suc (key x)) (without key n xs) (omega (arith, f.0)) rest) (λ t. (f.0, rest))
+      let lower = from_lower m (suc (key x)) (without key n xs) (omega (arith, f.0)) rest in
+      grind (arith, common_steps)
 
   from_added : (x : X) (m : ℕ) (xs : List X) → From key m xs → m ≤ key x → NoRowHas key (key x) xs → From key m (added key x xs)
   from_added x m [] f h a = (h, tt)
   from_added x m (y ∷ ys) f h a =
-      cond_both (ltb (key y) (key x)) (y ∷ added key x ys) (x ∷ y ∷ ys) (From key m)
-      (λ t. (f.0, from_added x (suc (key y)) ys f.1 (ltb-true (key y) (key x) t) (lacks_tail (key x) y ys a)))
-      (λ t. (h, (omega (arith, ltb-false (key y) (key x) t, other_first), f.1)))
-    where
-      other_first : key y ≡ key x → ⊥
-      other_first e = a 0 y (omega arith) e
+      let rest = from_added x (suc (key y)) ys f.1 in
+      let apart = a 0 y (omega arith) in
+      let tail = lacks_tail (key x) y ys a in
+      grind (arith, common_steps)
 
   pub keeps_number : (x y : X) → key (cond (eqb (key y) (key x)) x y) ≡ key y
-  keeps_number x y = cond_both (eqb (key y) (key x)) x y (λ z. key z ≡ key y) (λ t. sym (eqb-true (key y) (key x) t)) (λ t. refl)
-
-  pub rising_map : (f : X → X) → ((x : X) → key (f x) ≡ key x) → (xs : List X) → StrictlyRising key xs → StrictlyRising key (map f xs)
-  rising_map f e xs r = rising 0 (map f xs) (from_map f e 0 xs (from xs r))
+  keeps_number x y = grind (arith, common_steps)
 
   pub rising_without : (n : ℕ) (xs : List X) → StrictlyRising key xs → StrictlyRising key (without key n xs)
   rising_without n xs r = rising 0 (without key n xs) (from_without n 0 xs (from xs r))
@@ -93,4 +92,4 @@ module _ {X : Type 0} (key : X → ℕ) where
   rising_added x xs a r = rising 0 (added key x xs) (from_added x 0 xs (from xs r) (omega arith) a)
 
   pub rising_replaced : (x : X) (xs : List X) → StrictlyRising key xs → StrictlyRising key (replaced key x xs)
-  rising_replaced x xs r = rising_map (λ y. cond (eqb (key y) (key x)) x y) (keeps_number x) xs r
+  rising_replaced x xs r = rising_same xs (replaced key x xs) (map-map key (λ y. cond (eqb (key y) (key x)) x y) xs ∙ (λ i. map (λ y. keeps_number x y i) xs)) r

@@ -1,35 +1,31 @@
 ghost use Rattle.std.specs.Prelude.{◌≡◌, map};
-ghost use Rattle.keyed_table.specs.Tables.{content, Sound, Changed};
+ghost use Rattle.keyed_table.specs.Rows.{Computes, KeepsNumber};
+ghost use Rattle.keyed_table.specs.Tables.{content, Changed};
 
 use super::{Numbered, Table};
 
-/// A change of a row, which keeps its number.
-pub trait Change<R: Numbered> {
-    ghost does: { Self → R → R };
-
-    fn done(&self, row: R) -> R
-        ensures row { result ≡ does self.now row };
-
-    ghost numbers: { (change : Self) (row : R) → R.key (does change row) ≡ R.key row };
-}
-
 impl<'a, R: Numbered> Table<'a, R> {
-    /// Changes every row in use.
-    pub fn change_all<C: Change<R>>(&mut self, change: &C)
-        requires sound { Sound R.key self.old }
-        ensures change { Changed self.old self.new (map (C.does change.now) (content self.old)) }
-        ensures sound { Sound R.key self.new }
+    /// Changes every row in use by `change`, which keeps each row's number.
+    pub fn change_all<F: Fn(R) -> R>(&mut self, change: F)
+        requires callable { F.IsAlwaysCallable change }
+        requires numbers { KeepsNumber R.key (F.post change) }
+        ensures change { (does : R → R) → Computes (F.post change) does → Changed self.old self.new (map does (content self.old)) }
+        ensures frame { Changed self.old self.new (content self.new) }
+        ensures numbers { map R.key (content self.new) ≡ map R.key (content self.old) }
     {
         let used = self.used;
-        change_rows(&mut self.rows[0..used], change);
+        change_rows(&mut self.rows[..used], change);
     }
 }
 
 /// Changes each of the rows.
-fn change_rows<R: Numbered, C: Change<R>>(rows: &mut [R], change: &C)
-    ensures rows { rows.new ≡ map (C.does change.now) rows.old }
+fn change_rows<R: Numbered, F: Fn(R) -> R>(rows: &mut [R], change: F)
+    requires callable { F.IsAlwaysCallable change }
+    requires numbers { KeepsNumber R.key (F.post change) }
+    ensures numbers { map R.key rows.new ≡ map R.key rows.old }
+    ensures rows { (does : R → R) → Computes (F.post change) does → rows.new ≡ map does rows.old }
 {
     for row in rows.iter_mut() {
-        *row = change.done(*row);
+        *row = change(*row);
     }
 }

@@ -3,17 +3,18 @@
 
 #![tactic(auto)]
 
-ghost use Rattle.std.specs.Prelude.{◌≡◌, ℕ};
+ghost use Rattle.std.specs.Prelude.{◌≡◌, ℕ, ◌≤◌, length, take};
+ghost use Rattle.keyed_table.specs.Rows.{StrictlyRising};
 
-pub mod change;
+mod change;
 pub mod laws;
-pub mod question;
+mod question;
 mod reading;
 mod search;
 mod shift;
 mod writing;
 
-/// What has a number; `key` is that number in contracts.
+/// What has a number; `key` is that number in contracts, and what the order of a table speaks of, which no closure could say.
 pub trait Numbered: Copy {
     ghost key: { Self → ℕ };
 
@@ -21,15 +22,17 @@ pub trait Numbered: Copy {
         ensures number { result ≡ key self.now };
 }
 
-/// The first `used` rows are in use, and never more than `limit`.
+/// The first `used` rows are in use, never more than `limit`, and rise strictly in number.
 ///
-/// That they rise in number is said by `Sound`, which each call asks of the table that comes in and promises of the one it leaves: a ghost
-/// field cannot name the `key` of a type parameter. A struct that holds a table of known rows can have `Sound` as a ghost field of its own.
+/// A slice and a count, and no map: a book allocates nothing, and the rows are their lender's.
 #[derive(Drop)]
-pub struct Table<'a, R> {
+pub struct Table<'a, R: Numbered> {
     rows: &'a mut [R],
     used: usize,
     limit: usize,
+    pub ghost within_limit: { used ≤ limit },
+    pub ghost within_rows: { limit ≤ length rows.now },
+    pub ghost rising: { StrictlyRising R.key (take used rows.now) },
 }
 
 /// Why a call changed nothing.

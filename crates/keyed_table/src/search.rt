@@ -4,6 +4,7 @@ ghost use Rattle.keyed_table.specs.Rows.{StrictlyRising, below};
 use super::Numbered;
 
 /// How many rows have a number below `number`, where the numbers rise. Each turn reads one row at most.
+// The library's searches promise nothing of how many rows they read.
 pub fn lower_bound<R: Numbered>(rows: &[R], number: u32) -> usize
     requires order { StrictlyRising R.key rows.now }
     ensures place { result ≡ below R.key number rows.now }
@@ -13,7 +14,7 @@ pub fn lower_bound<R: Numbered>(rows: &[R], number: u32) -> usize
     let turns = binary_digits(rows.len());
     for turn in 0..turns {
         if low < high {
-            let middle = low + (high - low) / 2;
+            let middle = low.midpoint(high);
             if rows[middle].number() < number {
                 low = middle + 1;
             } else {

@@ -7,13 +7,8 @@ pub fn shift_in<R: Copy>(rows: &mut [R], at: usize, used: usize, row: R)
     requires room { used < length rows.old }
     ensures rows { rows.new ≡ insert (take used rows.old) at row ++ drop (used + 1) rows.old }
 {
-    let mut carried = row;
-    for place in at..used {
-        let next = rows[place];
-        rows[place] = carried;
-        carried = next;
-    }
-    rows[used] = carried;
+    rows.copy_within(at..used, at + 1);
+    rows[at] = row;
 }
 
 /// Puts each of the first `used` rows that stands past the place `at` one place down, over the row there.
@@ -22,7 +17,5 @@ pub fn shift_out<R: Copy>(rows: &mut [R], at: usize, used: usize)
     requires within { used ≤ length rows.old }
     ensures rows { rows.new ≡ remove (take used rows.old) at ++ drop (used - 1) rows.old }
 {
-    for place in at..used - 1 {
-        rows[place] = rows[place + 1];
-    }
+    rows.copy_within(at + 1..used, at);
 }

@@ -1,7 +1,7 @@
-ghost use Rattle.std.specs.Prelude.{◌≡◌, min, [], length};
+ghost use Rattle.std.specs.Prelude.{◌≡◌, min, [], length, OnErr};
 ghost use Rattle.std.specs.Option.{ok_or};
 ghost use Rattle.keyed_table.specs.Rows.{lookup, replaced, without};
-ghost use Rattle.keyed_table.specs.Tables.{content, Sound, Changed, Kept, insertion, enlarged};
+ghost use Rattle.keyed_table.specs.Tables.{content, Changed, insertion, enlarged};
 
 use super::shift::{shift_in, shift_out};
 use super::{Numbered, Refusal, Table};
@@ -13,7 +13,6 @@ impl<'a, R: Numbered> Table<'a, R> {
         ensures limit { result.limit ≡ min limit (length rows.old) }
         ensures rows { result.rows.now ≡ rows.old }
         ensures lent { result.rows.ghost_name ≡ rows.entry.ghost_name }
-        ensures sound { Sound R.key result }
     {
         let limit = limit.min(rows.len());
         Table {
@@ -25,37 +24,29 @@ impl<'a, R: Numbered> Table<'a, R> {
 
     /// Puts a row with a new number in its place.
     pub fn insert(&mut self, row: R) -> Result<(), Refusal>
-        requires sound { Sound R.key self.old }
         ensures answer { result ≡ insertion R.key row self.old.limit (content self.old) }
         ensures change { Changed self.old self.new (enlarged R.key row self.old.limit (content self.old)) }
-        ensures refusal { Kept result self.old self.new }
-        ensures sound { Sound R.key self.new }
+        ensures refusal { OnErr result (self.new ≡ self.old) }
     {
-        match self.seek(row.number()) {
-            Ok(_) => Err(Refusal::NumberTaken),
-            Err(at) => {
-                if self.used == self.limit {
-                    return Err(Refusal::Full);
-                }
-                let used = self.used;
-                shift_in(self.rows, at, used, row);
-                self.used += 1;
-                Ok(())
-            }
+        let Err(at) = self.seek(row.number()) else {
+            return Err(Refusal::NumberTaken);
+        };
+        if self.used == self.limit {
+            return Err(Refusal::Full);
         }
+        let used = self.used;
+        shift_in(self.rows, at, used, row);
+        self.used += 1;
+        Ok(())
     }
 
     /// Takes the row with this number out; its place is free again.
     pub fn remove(&mut self, number: u32) -> Result<R, Refusal>
-        requires sound { Sound R.key self.old }
         ensures answer { result ≡ ok_or (lookup R.key number (content self.old)) Refusal.NoSuchRow }
         ensures change { Changed self.old self.new (without R.key number (content self.old)) }
-        ensures refusal { Kept result self.old self.new }
-        ensures sound { Sound R.key self.new }
+        ensures refusal { OnErr result (self.new ≡ self.old) }
     {
-        let Some(at) = self.find(number) else {
-            return Err(Refusal::NoSuchRow);
-        };
+        let at = self.find(number).ok_or(Refusal::NoSuchRow)?;
         let row = self.rows()[at];
         let used = self.used;
         shift_out(self.rows, at, used);
@@ -65,15 +56,12 @@ impl<'a, R: Numbered> Table<'a, R> {
 
     /// Puts `row` in place of the row with its number, and answers the row that was there.
     pub fn replace(&mut self, row: R) -> Result<R, Refusal>
-        requires sound { Sound R.key self.old }
         ensures answer { result ≡ ok_or (lookup R.key (R.key row) (content self.old)) Refusal.NoSuchRow }
         ensures change { Changed self.old self.new (replaced R.key row (content self.old)) }
-        ensures refusal { Kept result self.old self.new }
-        ensures sound { Sound R.key self.new }
+        ensures refusal { OnErr result (self.new ≡ self.old) }
     {
-        let Some(at) = self.find(row.number()) else {
-            return Err(Refusal::NoSuchRow);
-        };
+        let at = self.find(row.number()).ok_or(Refusal::NoSuchRow)?;
+        // Not `mem::replace`: the check does not follow an element lent out of a struct with ghost fields.
         let old = self.rows()[at];
         self.rows[at] = row;
         Ok(old)

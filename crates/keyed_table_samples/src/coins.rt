@@ -1,7 +1,6 @@
-ghost use Rattle.std.specs.Prelude.{◌≡◌, ◌-◌, ◌<◌, [], ◌∷◌, refl};
+ghost use Rattle.std.specs.Prelude.{◌≡◌, ◌<◌, [], ◌∷◌};
 ghost use Rattle.keyed_table_samples.specs.Coins.{coin_number};
 
-use keyed_table::change::Change;
 use keyed_table::{Numbered, Table};
 
 #[derive(Clone, Copy, Debug, PartialEq, Eq)]
@@ -18,25 +17,6 @@ impl Numbered for Coin {
     }
 }
 
-/// Takes worth off a coin, down to nothing.
-#[derive(Clone, Copy)]
-pub struct Wear {
-    pub by: u16,
-}
-
-impl Change<Coin> for Wear {
-    ghost does = { λ wear coin. record { number = coin.number; worth = coin.worth - wear.by } };
-
-    ghost numbers = { λ wear coin. refl };
-
-    fn done(&self, coin: Coin) -> Coin {
-        Coin {
-            number: coin.number,
-            worth: coin.worth.saturating_sub(self.by),
-        }
-    }
-}
-
 /// Two coins in the order of their numbers, by way of a table.
 pub fn in_order(low: Coin, high: Coin) -> [Coin; 2]
     requires { low.number < high.number }
@@ -44,8 +24,8 @@ pub fn in_order(low: Coin, high: Coin) -> [Coin; 2]
 {
     let mut rows = [high; 2];
     let mut table = Table::new(&mut rows, 2);
-    let _ = table.insert(high);
-    let _ = table.insert(low);
+    table.insert(high).unwrap();
+    table.insert(low).unwrap();
     rows
 }
 
@@ -89,7 +69,10 @@ mod tests {
         let mut rows = [BLANK; 2];
         let mut table = Table::new(&mut rows, 2);
         assert_eq!(rt; table.insert(coin(7)), Ok(()));
-        table.change_all(&Wear { by: 3 });
+        table.change_all(|coin| Coin {
+            number: coin.number,
+            worth: coin.worth.saturating_sub(3),
+        });
         assert_eq!(rt;
             table.get(7),
             Some(Coin {

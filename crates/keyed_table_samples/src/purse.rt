@@ -1,17 +1,16 @@
-ghost use Rattle.std.specs.Prelude.{◌≡◌, []};
+ghost use Rattle.std.specs.Prelude.{◌≡◌, [], map};
 ghost use Rattle.std.specs.Option.{ok_or};
 ghost use Rattle.keyed_table.specs.Rows.{lookup, without, replaced};
-ghost use Rattle.keyed_table.specs.Tables.{content, Sound, insertion, enlarged};
-ghost use Rattle.keyed_table_samples.specs.Coins.{coin_number};
+ghost use Rattle.keyed_table.specs.Tables.{content, insertion, enlarged};
+ghost use Rattle.keyed_table_samples.specs.Coins.{coin_number, worn};
 
 use crate::coins::Coin;
 use keyed_table::{Refusal, Table};
 
-/// A table of coins that carries its soundness, so that no call asks for it.
+/// Coins by number.
 #[derive(Drop)]
 pub struct Purse<'a> {
     coins: Table<'a, Coin>,
-    ghost sound: { Sound coin_number coins },
 }
 
 impl<'a> Purse<'a> {
@@ -48,5 +47,15 @@ impl<'a> Purse<'a> {
         ensures coins { content self.new.coins ≡ replaced coin_number coin (content self.old.coins) }
     {
         let _ = self.coins.replace(coin);
+    }
+
+    /// Takes worth off every coin, down to nothing.
+    pub fn wear(&mut self, by: u16)
+        ensures coins { content self.new.coins ≡ map (worn by) (content self.old.coins) }
+    {
+        self.coins.change_all(|coin| Coin {
+            number: coin.number,
+            worth: coin.worth.saturating_sub(by),
+        });
     }
 }

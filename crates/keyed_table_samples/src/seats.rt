@@ -1,6 +1,7 @@
-ghost use Rattle.std.specs.Prelude.{◌≡◌, [], ◌∷◌, length};
+ghost use Rattle.std.specs.Prelude.{◌≡◌, ◌<◌, [], ◌∷◌, length, slice_set};
+ghost use Rattle.std.specs.List.{count_by};
+ghost use Rattle.keyed_table.specs.Tables.{content};
 
-use keyed_table::question::Question;
 use keyed_table::{Numbered, Table};
 
 #[derive(Clone, Copy, Debug, PartialEq, Eq)]
@@ -18,19 +19,39 @@ impl Numbered for Seat {
 }
 
 /// How many seats there are.
-#[derive(Clone, Copy)]
-pub struct HowMany;
+pub fn how_many(seats: &mut Table<'_, Seat>) -> usize
+    ensures count { result ≡ length (content seats.old) }
+    ensures same { seats.new ≡ seats.old }
+{
+    seats.ask(|rows| rows.len())
+}
 
-impl Question<Seat> for HowMany {
-    type Answer = usize;
+/// How many of the seats are taken.
+fn taken(seats: &[Seat]) -> usize
+    ensures { result ≡ count_by (λ seat. seat.taken) seats.now }
+{
+    seats.iter().filter(|seat| seat.taken).count()
+}
 
-    ghost can = { λ _ _. Unit {0} };
-
-    ghost says = { λ _ seats answer. answer ≡ length seats };
-
-    fn ask(&self, seats: &mut [Seat]) -> usize {
-        seats.len()
-    }
+/// How many seats would be taken if `seat` stood at this place.
+pub fn taken_with(seats: &mut Table<'_, Seat>, at: usize, seat: Seat) -> usize
+    requires place { at < length (content seats.old) }
+    ensures count { result ≡ count_by (λ seat. seat.taken) (slice_set (content seats.old) at seat) }
+    ensures same { seats.new ≡ seats.old }
+{
+    seats.ask(
+        |rows|
+            requires place { at < length rows.old }
+            ensures count { result ≡ count_by (λ seat. seat.taken) (slice_set rows.old at seat) }
+            ensures same { rows.new ≡ rows.old }
+        {
+            let before = rows[at];
+            rows[at] = seat;
+            let count = taken(rows);
+            rows[at] = before;
+            count
+        },
+    )
 }
 
 /// What the rows hold after a seat came and went and another came: that one stands where the first did.
@@ -39,9 +60,9 @@ pub fn reused(blank: Seat, first: Seat, second: Seat) -> [Seat; 2]
 {
     let mut rows = [blank; 2];
     let mut table = Table::new(&mut rows, 1);
-    let _ = table.insert(first);
-    let _ = table.remove(first.number());
-    let _ = table.insert(second);
+    table.insert(first).unwrap();
+    table.remove(first.number()).unwrap();
+    table.insert(second).unwrap();
     rows
 }
 
@@ -82,7 +103,20 @@ mod tests {
         assert_eq!(rt; table.insert(seat(8)), Ok(()));
         assert_eq!(rt; table.replace(taken), Ok(seat(8)));
         assert_eq!(rt; table.get(8), Some(taken));
-        assert_eq!(rt; table.ask(&HowMany), 1);
+        assert_eq!(rt; how_many(&mut table), 1);
+    }
+
+    #[test]
+    fn a_seat_is_counted_where_it_might_stand(rt: HostRuntime) {
+        let mut rows = [seat(0); 2];
+        let mut table = Table::new(&mut rows, 2);
+        assert_eq!(rt; table.insert(seat(1)), Ok(()));
+        let taken = Seat {
+            taken: true,
+            number: 1,
+        };
+        assert_eq!(rt; taken_with(&mut table, 0, taken), 1);
+        assert_eq!(rt; table.get(1), Some(seat(1)));
     }
 
     #[test]

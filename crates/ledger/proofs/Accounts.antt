@@ -1,5 +1,5 @@
 -- How many culms a call adds or takes out, and whose readings a ledger has. Assumes nothing.
-use Rattle.std.proofs.Common.{◌≡◌, ℕ, ◌+◌, true, false, cond, eqb, List, [], ◌∷◌, map, length, Some, None, Ok, Err, count_by, Option, Result, sym, refl, ap, ◌∙◌, subst, ⊎_elim, arith}
+use Rattle.std.proofs.Common.{◌≡◌, ℕ, ◌+◌, true, false, cond, eqb, List, [], ◌∷◌, map, length, Some, None, Ok, Err, count_by, Option, Result, sym, refl, ap, ◌∙◌, subst, ⊎_elim, arith, is_err}
 use Rattle.std.proofs.lemmas.List.Sums.{sum_by-cons}
 use Rattle.std.proofs.lemmas.Bool.{cond-true, cond-false, cases_eq, ne_eqb, eq-eqb}
 use Rattle.quantities.specs.declared.fault.MeasureFault.{MeasureFault}
@@ -9,8 +9,8 @@ use Rattle.keyed_table.proofs.Lookups.{by_test, adding, removing, replacing}
 use Rattle.ledger.specs.Ledger.{Ledger, culm_key, grade_at, culm_at, at, raised, dropped, struck, moved_by, on_rack, held_by, is_held, is_standing}
 use Rattle.ledger.specs.Orders.{Order}
 use Rattle.ledger.specs.Orders.Order.{define_grade, define_class, add_culm, scrap_culm, open_ticket, check_out, check_in, hold, free, judge, set_member, drop_ticket, strike, load, judge_without, look_culm, look_member, look_counts}
-use Rattle.ledger.specs.Runs.{is_refused, Addition, addition_of, scraps, one_if, order_in, added_by, scrapped_by, of_number, addition_in}
-use Rattle.ledger.specs.Table.{checks_of, done_by, changed_culm, new_culm, told_of, next_of}
+use Rattle.ledger.specs.Runs.{Addition, addition_of, scraps, one_if, order_in, added_by, scrapped_by, of_number, addition_in}
+use Rattle.ledger.specs.Table.{checks_of, done_by, changed_culm, new_culm, refusal_of, next_of}
 use Rattle.ledger.specs.declared.culm.Culm.{Culm}
 use Rattle.ledger.specs.declared.culm.Place.{Place}
 use Rattle.ledger.specs.declared.culm.Place.TheVariants.{Rack, Held, Standing}
@@ -69,19 +69,19 @@ module _ (rule : Rule) (l : Ledger) (h : Good rule l) where
   done_count look_counts p = refl
 
   abbrev accepted_in : Result Order MeasureFault → Option Order
-  accepted_in o = cond (is_refused (told_of rule l o)) None (order_in o)
+  accepted_in o = cond (is_err (refusal_of rule l o)) None (order_in o)
 
   pub step_count : (o : Result Order MeasureFault)
       → length (next_of rule l o).culms + scrapped_by (accepted_in o) ≡ length l.culms + added_by (accepted_in o)
   step_count (Err f) = refl
   step_count (Ok o) =
-      by_test (is_refused (told_of rule l (Ok o)))
+      by_test (is_err (refusal_of rule l (Ok o)))
       (λ t.
-      let none : accepted_in (Ok o) ≡ None = cond-true (is_refused (told_of rule l (Ok o))) None (Some o) t in
+      let none : accepted_in (Ok o) ≡ None = cond-true (is_err (refusal_of rule l (Ok o))) None (Some o) t in
       let same : next_of rule l (Ok o) ≡ l = refused_changes_nothing rule l (Ok o) t in
       omega (arith, ap (λ z. length z.culms) same, ap scrapped_by none, ap added_by none))
       (λ t.
-      let some : accepted_in (Ok o) ≡ Some o = cond-false (is_refused (told_of rule l (Ok o))) None (Some o) t in
+      let some : accepted_in (Ok o) ≡ Some o = cond-false (is_err (refusal_of rule l (Ok o))) None (Some o) t in
       let does : next_of rule l (Ok o) ≡ done_by l o = accepted_does rule l o t in
       omega (arith, ap (λ z. length z.culms) does, ap scrapped_by some, ap added_by some, done_count o (accepted_passes rule l o t)))
 
@@ -166,13 +166,13 @@ module _ (rule : Rule) (l : Ledger) (h : Good rule l) (n : ℕ) (was : Option Ad
   pub step_traced : (o : Result Order MeasureFault) → Traced n (next_of rule l o).culms (addition_in n (accepted_in rule l h o) was)
   step_traced (Err f) = t
   step_traced (Ok o) =
-      by_test (is_refused (told_of rule l (Ok o)))
+      by_test (is_err (refusal_of rule l (Ok o)))
       (λ e.
-      let none : accepted_in rule l h (Ok o) ≡ None = cond-true (is_refused (told_of rule l (Ok o))) None (Some o) e in
+      let none : accepted_in rule l h (Ok o) ≡ None = cond-true (is_err (refusal_of rule l (Ok o))) None (Some o) e in
       let same : next_of rule l (Ok o) ≡ l = refused_changes_nothing rule l (Ok o) e in
       subst (λ z. Traced n (next_of rule l (Ok o)).culms (addition_in n z was)) (sym none) (subst (λ z. Traced n z.culms was) (sym same) t))
       (λ e.
-      let some : accepted_in rule l h (Ok o) ≡ Some o = cond-false (is_refused (told_of rule l (Ok o))) None (Some o) e in
+      let some : accepted_in rule l h (Ok o) ≡ Some o = cond-false (is_err (refusal_of rule l (Ok o))) None (Some o) e in
       let does : next_of rule l (Ok o) ≡ done_by l o = accepted_does rule l o e in
       subst (λ z. Traced n (next_of rule l (Ok o)).culms (addition_in n z was)) (sym some)
       (subst (λ z. Traced n z.culms (of_number n (addition_of o) was)) (sym does) (done_traced o (accepted_passes rule l o e))))

@@ -1,9 +1,8 @@
 -- What every ledger that began empty keeps: bundles are small, and judged tickets and standing members are met by the rule. Assumes nothing.
-use Rattle.std.proofs.Common.{◌≡◌, ℕ, ◌+◌, ◌<◌, ◌≤◌, Bool, true, false, eqb, ◌≢◌, List, [], ◌∷◌, map, length, Some, None, Option, sym, refl, ap, ◌∙◌, subst, ⊎_elim, arith, length-append}
+use Rattle.std.proofs.Common.{Ok, Err, ◌≡◌, ℕ, ◌+◌, ◌<◌, ◌≤◌, Bool, true, false, eqb, ◌≢◌, List, [], ◌∷◌, map, length, Some, None, Option, sym, refl, ap, ◌∙◌, subst, ⊎_elim, arith, length-append}
 use Rattle.std.proofs.lemmas.Bool.{cond-false, cond_both, cases_eq, ne_eqb, eqb-true, ltb-true, not-false}
 use Rattle.design_code.specs.Meaning.{Rule}
-use Rattle.design_code.specs.declared.verdict.Verdict.{Verdict}
-use Rattle.design_code.specs.declared.verdict.Verdict.TheVariants.{Met, Refused as Against}
+use Rattle.design_code.specs.Verdicts.{Verdict, all_met}
 use Rattle.keyed_table.specs.Rows.{lookup, added, without, replaced}
 use Rattle.keyed_table.proofs.Lookups.{adding, removing, replacing as replacing-laws}
 use Rattle.ledger.specs.Ledger.{Ledger, culm_key, member_key, grade_at, class_at, culm_at, member_at, Piece, part_of, bundle, at, staged, reloaded, raised, dropped, struck, moved_by, on_rack, held_by, stands, is_in_hand, out_of_hand, is_judged, with_culms, with_members}
@@ -41,9 +40,9 @@ pub is_so_lem : {X : Type 0} (p : X → Bool) (o : Option X) → is_not p o ≡ 
 is_so_lem p None e = no_truth e
 is_so_lem p (Some x) e = (x, refl, not-false (p x) e)
 
-pub met : (v : Verdict) → refuses v ≡ false → v ≡ Met
-met Met e = refl
-met (Against k) e = no_truth e
+pub met : (v : Verdict) → refuses v ≡ false → v ≡ all_met
+met (Ok _) e = refl
+met (Err r) e = no_truth e
 
 -- the parts of a culm in its places
 abbrev pub part : ℕ → Culm → List Piece
@@ -102,7 +101,7 @@ length_struck m k c (Standing j) =
 pub record Accepted (rule : Rule) (b : List Piece) (r : Member) : Type 0 where
   pub question : Question
   pub about : question_of b r ≡ Some question
-  pub is_met : verdict_on rule (Some question) ≡ Met
+  pub is_met : verdict_on rule (Some question) ≡ all_met
 
 -- owed to a judged ticket and to a standing member
 abbrev pub OwedAt : Stage → Type 0 → Type 0
@@ -226,7 +225,7 @@ module _ (rule : Rule) (l : Ledger) (h : Good rule l) where
       (λ j. restaged rule (bundle m l.culms) t (Ticket (is_judged t) b) (judged_owes t t.stage _ (subst (Owed rule (bundle m l.culms)) e (h.owed m)) j))
 
   -- a bundle for another duration and other forces, which the rule accepts
-  accepted_from : (b : List Piece) (r : Member) (q : Question) → question_of b r ≡ Some q → verdict_on rule (question_of b r) ≡ Met → Accepted rule b r
+  accepted_from : (b : List Piece) (r : Member) (q : Question) → question_of b r ≡ Some q → verdict_on rule (question_of b r) ≡ all_met → Accepted rule b r
   accepted_from b r q e v = record { question = q; about = e; is_met = ap (verdict_on rule) (sym e) ∙ v }
 
   some_question : (b : List Piece) (r : Member) → (length b ≡ 0 → ⊥) → (q : Question) × (question_of b r ≡ Some q)
@@ -308,7 +307,7 @@ module _ (rule : Rule) (l : Ledger) (h : Good rule l) where
       let t = is_so_lem is_in_hand (member_at l m) p.0 in
       let q = is_present (ticket_question l m) p.1.1.0 in
       let e : question_of (bundle m l.culms) t.0 ≡ Some q.0 = ap (question_for (bundle m l.culms)) (sym t.1) ∙ q.1 in
-      let v : verdict_on rule (question_of (bundle m l.culms) t.0) ≡ Met =
+      let v : verdict_on rule (question_of (bundle m l.culms) t.0) ≡ all_met =
       ap (λ o. verdict_on rule (question_for (bundle m l.culms) o)) (sym t.1) ∙ met (verdict_on rule (ticket_question l m)) p.1.1.1.0 in
       stage_kept m (staged (Ticket true true)) t.0 t.1 refl
       (λ _. restaged rule (bundle m l.culms) t.0 (Ticket true true) (accepted_from (bundle m l.culms) t.0 q.0 e v))
@@ -326,7 +325,7 @@ module _ (rule : Rule) (l : Ledger) (h : Good rule l) where
       let t = is_so_lem stands (member_at l m) p.0 in
       let a = standing_owes t.0 t.0.stage _ (subst (Owed rule (bundle m l.culms)) t.1 (h.owed m)) t.2 in
       let q = some_question (bundle m l.culms) (reloaded d f t.0) (not_empty (bundle m l.culms) t.0 a) in
-      let v : verdict_on rule (question_of (bundle m l.culms) (reloaded d f t.0)) ≡ Met =
+      let v : verdict_on rule (question_of (bundle m l.culms) (reloaded d f t.0)) ≡ all_met =
       ap (λ o. verdict_on rule (question_for (bundle m l.culms) (reloaded_at d f o))) (sym t.1) ∙ met (verdict_on rule (load_question l m d f)) p.1.0 in
       let fresh = accepted_from (bundle m l.culms) (reloaded d f t.0) q.0 q.1 v in
       stage_kept m (reloaded d f) t.0 t.1 refl (owed_any t.0.stage _ fresh)

@@ -1,18 +1,19 @@
 -- Whole runs: what is true of every call is true of every run. Assumes nothing.
-use Rattle.std.proofs.Common.{◌≡◌, ℕ, zero, suc, ◌+◌, ◌<◌, List, [], ◌∷◌, ◌++◌, length, get_or, take, None, Ok, Err, Option, Result, sym, refl, ap, ◌∙◌, subst, arith}
+use Rattle.std.proofs.Common.{◌≡◌, ℕ, zero, suc, ◌+◌, ◌<◌, List, [], ◌∷◌, ◌++◌, length, get_or, take, None, Ok, Err, Option, Result, is_err, sym, refl, ap, ◌∙◌, subst, arith}
 use Rattle.quantities.specs.declared.fault.MeasureFault.{MeasureFault}
 use Rattle.design_code.specs.Meaning.{Rule, Meaning, Sound}
 use Rattle.ledger.specs.Ledger.{Ledger}
 use Rattle.ledger.specs.Orders.{Order, measured}
-use Rattle.ledger.specs.Runs.{empty_ledger, run, answers, ledger_at, call_at, is_refused, Addition, additions, scrappings, latest_from, Began, Whole}
+use Rattle.ledger.specs.Runs.{empty_ledger, run, answers, ledger_at, call_at, Addition, additions, scrappings, latest_from, Began, Whole}
 use Rattle.ledger.specs.Table.{checks_of, done_by, told, next, next_of}
 use Rattle.ledger.specs.declared.answer.Answer.{Answer}
 use Rattle.ledger.specs.declared.answer.Answer.TheVariants.{Done}
 use Rattle.ledger.specs.declared.call.Call.{Call}
+use Rattle.ledger.specs.declared.fault.BookFault.{BookFault}
 use Rattle.ledger.proofs.Accounts.{places_add_up, step_count, step_traced, Traced}
 use Rattle.ledger.proofs.Kept.{Good, keeps, done_kept}
 use Rattle.ledger.proofs.Numbered.{no_none}
-use Rattle.ledger.proofs.Strength.{refused_changes_nothing, accepted_meets, refused_breaks, standing_meet}
+use Rattle.ledger.proofs.Strength.{as_refused, fault_told, refused_changes_nothing, accepted_meets, refused_breaks, standing_meet}
 
 -- every ledger that began empty is good
 step_kept : (rule : Rule) (l : Ledger) → Good rule l → (o : Result Order MeasureFault) → Good rule (next_of rule l o)
@@ -35,7 +36,7 @@ run_on rule l [] cs = refl
 run_on rule l (c ∷ past) cs = run_on rule (next rule l c) past cs
 
 -- call by call
-answer_at : (rule : Rule) (l : Ledger) (cs : List Call) (i : ℕ) (d : Answer) → i < length cs
+answer_at : (rule : Rule) (l : Ledger) (cs : List Call) (i : ℕ) (d : Result Answer BookFault) → i < length cs
     → get_or (answers rule l cs) i d ≡ told rule (ledger_at rule l cs i) (call_at cs i)
 answer_at rule l [] i d h = absurd (omega arith)
 answer_at rule l (c ∷ cs) zero d h = refl
@@ -64,7 +65,7 @@ module _ (code : Meaning) (sound : Sound code) (before : Ledger) (calls : List C
   abbrev rule : Rule
   rule = code.rule
 
-  abbrev given : List Answer
+  abbrev given : List (Result Answer BookFault)
   given = answers rule before calls
 
   good_at : (past : List Call) → Began rule past before → (i : ℕ) → Good rule (ledger_at rule before calls i)
@@ -76,15 +77,15 @@ module _ (code : Meaning) (sound : Sound code) (before : Ledger) (calls : List C
     the_ledger_is_the_runs = refl;
     refused_calls_change_nothing = λ i h e.
         ledger_after rule before calls i h
-        ∙ refused_changes_nothing rule (ledger_at rule before calls i) (measured (call_at calls i)) (ap is_refused (sym (answer_at rule before calls i Done h)) ∙ e);
+        ∙ refused_changes_nothing rule (ledger_at rule before calls i) (measured (call_at calls i)) (as_refused _ _ _ (ap is_err (sym (answer_at rule before calls i (Ok Done) h)) ∙ e));
     standing_members_meet_every_clause = λ past b.
         standing_meet code sound (run rule before calls) (run_kept rule before calls (began_good rule past before b));
     accepted_questions_meet_every_clause = λ past b i q h e a.
         accepted_meets code sound (ledger_at rule before calls i) (good_at past b i) (measured (call_at calls i)) q
-        (ap is_refused (sym (answer_at rule before calls i Done h)) ∙ e) a;
+        (as_refused _ _ _ (ap is_err (sym (answer_at rule before calls i (Ok Done) h)) ∙ e)) a;
     strength_refusals_name_a_broken_clause = λ past b i k h e.
         refused_breaks code sound (ledger_at rule before calls i) (good_at past b i) (measured (call_at calls i)) k
-        (sym (answer_at rule before calls i Done h) ∙ e);
+        (fault_told _ _ _ (sym (answer_at rule before calls i (Ok Done) h) ∙ e));
     culms_add_up_to_added_less_scrapped = λ past b.
         let empty = empty_ledger b.culm_rows b.member_rows in
         let on : run rule empty (past ++ calls) ≡ run rule before calls =

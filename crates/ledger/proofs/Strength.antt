@@ -1,20 +1,17 @@
 -- What acceptance and refusal of one call say, for every sound code. Assumes nothing.
-use Rattle.std.proofs.Common.{◌≡◌, ℕ, suc, ◌≤◌, Bool, true, false, ◌⊎◌, List, [], ◌∷◌, ◌++◌, map, length, Some, None, Ok, Err, Option, Result, sym, refl, ap, ◌∙◌, subst, inl, inr, arith}
+use Rattle.std.proofs.Common.{◌≡◌, ℕ, suc, ◌≤◌, Bool, true, false, ◌⊎◌, List, [], ◌∷◌, ◌++◌, map, length, Some, None, Ok, Err, Option, Result, is_err, sym, refl, ap, ◌∙◌, subst, inl, inr, arith}
 use Rattle.std.proofs.lemmas.Bool.{cond-true, cond-false}
 use Rattle.quantities.specs.declared.fault.MeasureFault.{MeasureFault}
 use Rattle.design_code.specs.Meaning.{Rule, Meaning, Sound, Bundled}
-use Rattle.design_code.specs.declared.verdict.Verdict.{Verdict}
-use Rattle.design_code.specs.declared.verdict.Verdict.TheVariants.{Met, Refused as Against}
+use Rattle.design_code.specs.Verdicts.{Verdict, all_met, refused_by as against_by}
 use Rattle.keyed_table.specs.Rows.{without}
 use Rattle.keyed_table.proofs.Lookups.{by_test}
-use Rattle.ledger.specs.Ledger.{Ledger, culm_key, member_at, culm_at, Piece, part_of, bundle}
+use Rattle.ledger.specs.Ledger.{Ledger, culm_key, member_at, Piece, part_of, bundle}
 use Rattle.ledger.specs.Orders.{Order}
 use Rattle.ledger.specs.Orders.Order.{define_grade, define_class, add_culm, scrap_culm, open_ticket, check_out, check_in, hold, free, judge, set_member, drop_ticket, strike, load, judge_without, look_culm, look_member, look_counts}
-use Rattle.ledger.specs.Runs.{MeetsEveryClause, StandingMeet, asked_of, asked_by, Broken, is_refused}
-use Rattle.ledger.specs.Table.{Check, Question, question_of, question_for, reloaded_at, verdict_on, refuses, clause_of, strength, checks_of, done_by, accepted_by, told_culm, told_member, first_of, afterwards, answered, told_of, next_of}
+use Rattle.ledger.specs.Runs.{MeetsEveryClause, StandingMeet, asked_of, asked_by, Broken}
+use Rattle.ledger.specs.Table.{Check, Question, question_of, question_for, reloaded_at, verdict_on, refuses, clause_of, strength, checks_of, done_by, first_of, afterwards, answered, order_refusal, refusal_of, next_of}
 use Rattle.ledger.specs.declared.answer.Answer.{Answer}
-use Rattle.ledger.specs.declared.answer.Answer.TheVariants.{Refused}
-use Rattle.ledger.specs.declared.culm.Culm.{Culm}
 use Rattle.ledger.specs.declared.fault.BookFault.{BookFault}
 use Rattle.ledger.specs.declared.fault.BookFault.TheVariants.{Measure, AlreadyDefined, NotDefined, CulmKnown, CulmUnknown, CulmNotOnRack, NoCulmRow, MemberKnown, NotStanding, NoMemberRow, NoTicket, OtherState, BundleFull, OtherGrade, NotOfBundle, NoCulm, Clause}
 use Rattle.ledger.specs.declared.member.Member.{Member}
@@ -51,63 +48,39 @@ refused_by f (c ∷ cs) e =
     (λ t. let q : Err c.fault ≡ Err f = sym (cond-true c.when (Err c.fault) (first_of cs) t) ∙ e in inl (t, (cc)))
     (λ t. inr (refused_by f cs (sym (cond-false c.when (Err c.fault) (first_of cs) t) ∙ e)))
 
--- an accepted call is answered, not refused
-told_culm_lem : (o : Option Culm) → is_refused (told_culm o) ≡ false
-told_culm_lem None = refl
-told_culm_lem (Some c) = refl
+-- an answer is a refusal where the call is refused, with the same fault
+pub as_refused : (a : Answer) (r : Result (Unit {0}) BookFault) (b : Bool) → is_err (answered a r) ≡ b → is_err r ≡ b
+as_refused a (Ok _) b e = e
+as_refused a (Err f) b e = e
 
-told_member_lem : (o : Option Member) → is_refused (told_member o) ≡ false
-told_member_lem None = refl
-told_member_lem (Some m) = refl
+pub fault_told : (a : Answer) (r : Result (Unit {0}) BookFault) (f : BookFault) → answered a r ≡ Err f → r ≡ Err f
+fault_told a (Ok tt) f e = no_fault (sym e)
+fault_told a (Err g) f e = cc
 
-never_refused : (l : Ledger) (o : Order) → is_refused (accepted_by l o) ≡ false
-never_refused l (look_culm n) = told_culm_lem (culm_at l n)
-never_refused l (look_member m) = told_member_lem (member_at l m)
-never_refused l look_counts = refl
-never_refused l (define_grade g x) = refl
-never_refused l (define_class s x) = refl
-never_refused l (add_culm n g x) = refl
-never_refused l (scrap_culm n) = refl
-never_refused l (open_ticket m x s d f) = refl
-never_refused l (check_out m) = refl
-never_refused l (check_in m) = refl
-never_refused l (hold m n) = refl
-never_refused l (free m n) = refl
-never_refused l (judge m) = refl
-never_refused l (set_member m) = refl
-never_refused l (drop_ticket m) = refl
-never_refused l (strike m) = refl
-never_refused l (load m d f) = refl
-never_refused l (judge_without m n) = refl
+err_of : (r : Result (Unit {0}) BookFault) → is_err r ≡ true → (f : BookFault) × (r ≡ Err f)
+err_of (Ok tt) e = no_truth (sym e)
+err_of (Err f) e = (f, refl)
 
-ok_of : (a : Answer) (r : Result (Unit {0}) BookFault) → is_refused (answered a r) ≡ false → r ≡ Ok tt
-ok_of a (Ok tt) e = refl
-ok_of a (Err f) e = no_truth e
-
-err_of : (a : Answer) (r : Result (Unit {0}) BookFault) → is_refused a ≡ false → is_refused (answered a r) ≡ true → (f : BookFault) × (r ≡ Err f)
-err_of a (Ok tt) n e = no_truth (sym e ∙ n)
-err_of a (Err f) n e = (f, refl)
-
-fault_of : (a : Answer) (r : Result (Unit {0}) BookFault) (f : BookFault) → is_refused a ≡ false → answered a r ≡ Refused f → r ≡ Err f
-fault_of a (Ok tt) f n e = no_truth (sym (ap is_refused e) ∙ n)
-fault_of a (Err g) f n e = cc
+ok_of : (r : Result (Unit {0}) BookFault) → is_err r ≡ false → r ≡ Ok tt
+ok_of (Ok tt) e = refl
+ok_of (Err f) e = no_truth e
 
 -- a refused call changes nothing
-pub refused_changes_nothing : (rule : Rule) (l : Ledger) (o : Result Order MeasureFault) → is_refused (told_of rule l o) ≡ true → next_of rule l o ≡ l
+pub refused_changes_nothing : (rule : Rule) (l : Ledger) (o : Result Order MeasureFault) → is_err (refusal_of rule l o) ≡ true → next_of rule l o ≡ l
 refused_changes_nothing rule l (Err f) e = refl
 refused_changes_nothing rule l (Ok o) e =
-    let f = err_of (accepted_by l o) (first_of (checks_of rule l o)) (never_refused l o) e in
+    let f = err_of (order_refusal rule l o) e in
     refused_same (checks_of rule l o) l (done_by l o) f.0 f.1
 
 -- an accepted call passes every check
-pub accepted_passes : (rule : Rule) (l : Ledger) (o : Order) → is_refused (told_of rule l (Ok o)) ≡ false → Pass (checks_of rule l o)
-accepted_passes rule l o e = accepted (checks_of rule l o) (ok_of (accepted_by l o) (first_of (checks_of rule l o)) e)
+pub accepted_passes : (rule : Rule) (l : Ledger) (o : Order) → is_err (order_refusal rule l o) ≡ false → Pass (checks_of rule l o)
+accepted_passes rule l o e = accepted (checks_of rule l o) (ok_of (order_refusal rule l o) e)
 
 passed : {X : Type 0} (was new : X) (cs : List Check) → Pass cs → afterwards cs was new ≡ new
 passed was new [] p = refl
 passed was new (c ∷ cs) p = cond-false c.when was (afterwards cs was new) p.0 ∙ passed was new cs p.1
 
-pub accepted_does : (rule : Rule) (l : Ledger) (o : Order) → is_refused (told_of rule l (Ok o)) ≡ false → next_of rule l (Ok o) ≡ done_by l o
+pub accepted_does : (rule : Rule) (l : Ledger) (o : Order) → is_err (order_refusal rule l o) ≡ false → next_of rule l (Ok o) ≡ done_by l o
 accepted_does rule l o e = passed l (done_by l o) (checks_of rule l o) (accepted_passes rule l o e)
 
 -- a clause's fault
@@ -130,9 +103,9 @@ clause_fault OtherGrade = false
 clause_fault NotOfBundle = false
 clause_fault NoCulm = false
 
-against : (v : Verdict) (k : ℕ) → refuses v ≡ true → Clause (clause_of v) ≡ Clause k → v ≡ Against k
-against Met k r e = no_truth (sym r)
-against (Against j) k r e = cc
+against : (v : Verdict) (k : ℕ) → refuses v ≡ true → Clause (clause_of v) ≡ Clause k → v ≡ against_by k
+against (Ok _) k r e = no_truth (sym r)
+against (Err j) k r e = let q : j.clause ≡ k = cc in ap against_by q
 
 -- a question about one to sixteen culms
 length_readings : (b : List Piece) → length (map (λ x. x.readings) b) ≡ length b
@@ -174,7 +147,7 @@ asked_bundled rule l h (look_member m) q e = no_none (sym e)
 asked_bundled rule l h look_counts q e = no_none (sym e)
 
 -- an accepted question is met by the rule
-asked_met : (rule : Rule) (l : Ledger) (o : Order) (q : Question) → Pass (checks_of rule l o) → asked_of l o ≡ Some q → verdict_on rule (asked_of l o) ≡ Met
+asked_met : (rule : Rule) (l : Ledger) (o : Order) (q : Question) → Pass (checks_of rule l o) → asked_of l o ≡ Some q → verdict_on rule (asked_of l o) ≡ all_met
 asked_met rule l (judge m) q p e = met _ p.1.1.1.0
 asked_met rule l (load m d f) q p e = met _ p.1.0
 asked_met rule l (judge_without m n) q p e = met _ p.1.1.1.1.0
@@ -200,7 +173,7 @@ other_fault f k n e = no_truth (sym (ap clause_fault e) ∙ n)
 
 -- the code's refusal of a question
 refusing : (rule : Rule) (o : Option Question) (k : ℕ) → refuses (verdict_on rule o) ≡ true → Clause (clause_of (verdict_on rule o)) ≡ Clause k
-    → (q : Question) × (o ≡ Some q) × (verdict_on rule (Some q) ≡ Against k)
+    → (q : Question) × (o ≡ Some q) × (verdict_on rule (Some q) ≡ against_by k)
 refusing rule None k r e = no_truth (sym r)
 refusing rule (Some q) k r e = (q, refl, against (verdict_on rule (Some q)) k r e)
 
@@ -222,7 +195,7 @@ last_speaks k (c ∷ cs) s p (inr e) = last_speaks k cs s p.1 e
 
 -- a call that is refused by a clause has asked the code, and the code has answered that clause
 abbrev AskedAgainst : Rule → Ledger → Order → ℕ → Type 0
-AskedAgainst rule l o k = (q : Question) × (asked_of l o ≡ Some q) × (verdict_on rule (Some q) ≡ Against k)
+AskedAgainst rule l o k = (q : Question) × (asked_of l o ≡ Some q) × (verdict_on rule (Some q) ≡ against_by k)
 
 module _ (rule : Rule) (l : Ledger) (k : ℕ) where
   asked_last : (o : Order) (cs : List Check) → Plain cs → Calls (Clause k) (cs ++ (strength rule (asked_of l o) ∷ [])) → AskedAgainst rule l o k
@@ -252,22 +225,22 @@ module _ (rule : Rule) (l : Ledger) (k : ℕ) where
 
 -- for every sound code
 module _ (code : Meaning) (sound : Sound code) (l : Ledger) (h : Good code.rule l) where
-  meets : (q : Question) → Bundled q.culms → verdict_on code.rule (Some q) ≡ Met → MeetsEveryClause code q
+  meets : (q : Question) → Bundled q.culms → verdict_on code.rule (Some q) ≡ all_met → MeetsEveryClause code q
   meets q b v = sound.met q.culms q.basis q.forces b v
 
-  pub accepted_meets : (o : Result Order MeasureFault) (q : Question) → is_refused (told_of code.rule l o) ≡ false → asked_by l o ≡ Some q → MeetsEveryClause code q
+  pub accepted_meets : (o : Result Order MeasureFault) (q : Question) → is_err (refusal_of code.rule l o) ≡ false → asked_by l o ≡ Some q → MeetsEveryClause code q
   accepted_meets (Err f) q n e = no_none (sym e)
   accepted_meets (Ok o) q n e =
       meets q (asked_bundled code.rule l h o q e)
       (ap (verdict_on code.rule) (sym e) ∙ asked_met code.rule l o q (accepted_passes code.rule l o n) e)
 
-  pub refused_breaks : (o : Result Order MeasureFault) (k : ℕ) → told_of code.rule l o ≡ Refused (Clause k)
+  pub refused_breaks : (o : Result Order MeasureFault) (k : ℕ) → refusal_of code.rule l o ≡ Err (Clause k)
       → (q : Question) × (asked_by l o ≡ Some q) × Broken code q k
   refused_breaks (Err f) k e = other_fault (Measure f) k refl (cc)
   refused_breaks (Ok o) k e =
       let a =
       asked_against code.rule l k o
-      (refused_by (Clause k) (checks_of code.rule l o) (fault_of (accepted_by l o) (first_of (checks_of code.rule l o)) (Clause k) (never_refused l o) e)) in
+      (refused_by (Clause k) (checks_of code.rule l o) e) in
       let s = sound.refused a.0.culms a.0.basis a.0.forces (asked_bundled code.rule l h o a.0 a.1) k a.2 in
       (a.0, a.1, record { has = s.0; breaks = s.1 })
 

@@ -2,7 +2,7 @@
 use Rattle.std.specs.Prelude.{ℕ, ◌-◌, Bool, true, false, cond, not, List, [], ◌∷◌, None, count_by, Option, ◌==◌, nat_eq, slice_index_or}
 use Rattle.std.specs.List.{flat_map}
 use Rattle.quantities.specs.declared.basis.DesignBasis.{DesignBasis}
-use Rattle.quantities.specs.declared.class.ServiceClass.{ServiceClass}
+use Rattle.quantities.specs.Classes.{ServiceClass}
 use Rattle.quantities.specs.declared.duration.Duration.{Duration}
 use Rattle.quantities.specs.declared.forces.Forces.{Forces}
 use Rattle.quantities.specs.declared.grade.Grade.{Grade}

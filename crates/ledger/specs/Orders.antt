@@ -2,7 +2,7 @@
 use Rattle.std.specs.Prelude.{ℕ, Ok, Result}
 use Rattle.quantities.specs.Held.{and_then}
 use Rattle.quantities.specs.Measures.{within, grade, service_class, readings, forces}
-use Rattle.quantities.specs.declared.class.ServiceClass.{ServiceClass}
+use Rattle.quantities.specs.Classes.{ServiceClass}
 use Rattle.quantities.specs.declared.duration.Duration.{Duration}
 use Rattle.quantities.specs.declared.fault.MeasureFault.{MeasureFault}
 use Rattle.quantities.specs.declared.fault.MeasureFault.TheVariants.{OutOfRange}
@@ -45,18 +45,18 @@ culm n o = and_then (within 1 4096 n (OutOfRange 2)) (λ _. Ok o)
 
 -- refusals 5, 6 and 7, or the call in measures
 abbrev pub measured : Call → Result Order MeasureFault
-measured (DefineGrade g b c t s m) = and_then (within 1 8 g (OutOfRange 2)) (λ _. and_then (grade 3 b c t s m) (λ x. Ok (define_grade g x)))
-measured (DefineClass s f e) = and_then (within 1 3 s (OutOfRange 2)) (λ _. and_then (service_class 3 f e) (λ x. Ok (define_class s x)))
-measured (AddCulm n g d w s) =
+measured (DefineGrade g v) = and_then (within 1 8 g (OutOfRange 2)) (λ _. and_then (grade 3 v) (λ x. Ok (define_grade g x)))
+measured (DefineClass s f) = and_then (within 1 3 s (OutOfRange 2)) (λ _. and_then (service_class 3 f) (λ x. Ok (define_class s x)))
+measured (AddCulm n g r) =
     and_then (within 1 4096 n (OutOfRange 2)) (λ _.
     and_then (within 1 8 g (OutOfRange 3)) (λ _.
-    and_then (readings 4 d w s) (λ x. Ok (add_culm n g x))))
+    and_then (readings 4 r) (λ x. Ok (add_culm n g x))))
 measured (ScrapCulm n) = culm n (scrap_culm n)
-measured (Open m length s d n v b) =
-    and_then (within 1 9999 m (OutOfRange 2)) (λ _.
-    and_then (within 500 8000 length (OutOfRange 3)) (λ x.
-    and_then (within 1 3 s (OutOfRange 4)) (λ _.
-    and_then (forces 6 n v b) (λ f. Ok (open_ticket m x s d f)))))
+measured (Open o) =
+    and_then (within 1 9999 o.member (OutOfRange 2)) (λ _.
+    and_then (within 500 8000 o.length (OutOfRange 3)) (λ x.
+    and_then (within 1 3 o.class (OutOfRange 4)) (λ _.
+    and_then (forces 6 o.forces) (λ f. Ok (open_ticket o.member x o.class o.duration f)))))
 measured (CheckOut m) = member m (check_out m)
 measured (CheckIn m) = member m (check_in m)
 measured (Hold m n) = member_and_culm m n (hold m n)
@@ -65,7 +65,7 @@ measured (Judge m) = member m (judge m)
 measured (Set m) = member m (set_member m)
 measured (DropTicket m) = member m (drop_ticket m)
 measured (Strike m) = member m (strike m)
-measured (Load m d n v b) = and_then (within 1 9999 m (OutOfRange 2)) (λ _. and_then (forces 4 n v b) (λ f. Ok (load m d f)))
+measured (Load m d raw) = and_then (within 1 9999 m (OutOfRange 2)) (λ _. and_then (forces 4 raw) (λ f. Ok (load m d f)))
 measured (JudgeWithout m n) = member_and_culm m n (judge_without m n)
 measured (LookCulm n) = culm n (look_culm n)
 measured (LookMember m) = member m (look_member m)

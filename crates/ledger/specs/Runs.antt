@@ -1,5 +1,5 @@
 -- Whole runs of calls on a ledger that began empty, and what is true of every one. Assumes nothing.
-use Rattle.std.specs.Prelude.{◌≡◌, ℕ, suc, ◌+◌, ◌<◌, Bool, true, false, cond, List, [], ◌∷◌, ◌++◌, length, take, replicate, Some, None, Ok, Err, Option, Result, ◌==◌, slice_index_or}
+use Rattle.std.specs.Prelude.{◌≡◌, ℕ, suc, ◌+◌, ◌<◌, true, false, cond, List, [], ◌∷◌, ◌++◌, length, take, replicate, Some, None, Ok, Err, Option, Result, is_err, ◌==◌, slice_index_or}
 use Rattle.exact.specs.Pi.{lower_pi, upper_pi}
 use Rattle.quantities.specs.declared.fault.MeasureFault.{MeasureFault}
 use Rattle.quantities.specs.declared.readings.Readings.{Readings}
@@ -7,14 +7,15 @@ use Rattle.design_code.specs.Loads.{recorded, grown}
 use Rattle.design_code.specs.Meaning.{Rule, Meaning}
 use Rattle.ledger.specs.Ledger.{Ledger, culm_key, culm_at, member_at, bundle, counts}
 use Rattle.ledger.specs.Orders.{Order, measured}
-use Rattle.ledger.specs.Orders.Order.{define_grade, define_class, add_culm, scrap_culm, open_ticket, check_out, check_in, hold, free, judge, set_member, drop_ticket, strike, load, judge_without, look_culm, look_member, look_counts}
-use Rattle.ledger.specs.Table.{Question, question_of, question_for, reloaded_at, told, next}
+use Rattle.ledger.specs.Orders.Order.{add_culm, scrap_culm, judge, load, judge_without}
+use Rattle.ledger.specs.Table.{Question, question_of, question_for, reloaded_at, refusal, told, next}
 use Rattle.keyed_table.specs.Rows.{without}
 use Rattle.ledger.specs.declared.answer.Answer.{Answer}
-use Rattle.ledger.specs.declared.answer.Answer.TheVariants.{Done, Refused, OneCulm, OneMember, AllCounts}
+use Rattle.ledger.specs.declared.answer.Answer.TheVariants.{Done}
 use Rattle.ledger.specs.declared.call.Call.{Call}
 use Rattle.ledger.specs.declared.call.Call.TheVariants.{LookCounts}
 use Rattle.ledger.specs.declared.culm.Culm.{Culm}
+use Rattle.ledger.specs.declared.fault.BookFault.{BookFault}
 use Rattle.ledger.specs.declared.fault.BookFault.TheVariants.{Clause}
 use Rattle.ledger.specs.declared.member.Member.{Member}
 use Rattle.ledger.specs.declared.member.Stage.TheVariants.{Standing}
@@ -27,7 +28,7 @@ abbrev pub run : Rule → Ledger → List Call → Ledger
 run rule l [] = l
 run rule l (c ∷ cs) = run rule (next rule l c) cs
 
-abbrev pub answers : Rule → Ledger → List Call → List Answer
+abbrev pub answers : Rule → Ledger → List Call → List (Result Answer BookFault)
 answers rule l [] = []
 answers rule l (c ∷ cs) = told rule l c ∷ answers rule (next rule l c) cs
 
@@ -46,21 +47,7 @@ abbrev pub asked_of : Ledger → Order → Option Question
 asked_of l (judge m) = question_for (bundle m l.culms) (member_at l m)
 asked_of l (load m d f) = question_for (bundle m l.culms) (reloaded_at d f (member_at l m))
 asked_of l (judge_without m n) = question_for (bundle m (without culm_key n l.culms)) (member_at l m)
-asked_of l (define_grade g x) = None
-asked_of l (define_class s x) = None
-asked_of l (add_culm n g x) = None
-asked_of l (scrap_culm n) = None
-asked_of l (open_ticket m x s d f) = None
-asked_of l (check_out m) = None
-asked_of l (check_in m) = None
-asked_of l (hold m n) = None
-asked_of l (free m n) = None
-asked_of l (set_member m) = None
-asked_of l (drop_ticket m) = None
-asked_of l (strike m) = None
-asked_of l (look_culm n) = None
-asked_of l (look_member m) = None
-asked_of l look_counts = None
+asked_of l _ = None
 
 abbrev pub asked_by : Ledger → Result Order MeasureFault → Option Question
 asked_by l (Err f) = None
@@ -81,14 +68,6 @@ ledger_at rule l cs i = run rule l (take i cs)
 abbrev pub call_at : List Call → ℕ → Call
 call_at cs i = slice_index_or cs i LookCounts
 
--- a call that is refused
-abbrev pub is_refused : Answer → Bool
-is_refused (Refused f) = true
-is_refused Done = false
-is_refused (OneCulm c) = false
-is_refused (OneMember m) = false
-is_refused (AllCounts n) = false
-
 -- what an addition adds
 pub record Addition : Type 0 where
   pub number : ℕ
@@ -97,43 +76,11 @@ pub record Addition : Type 0 where
 
 abbrev pub addition_of : Order → Option Addition
 addition_of (add_culm n g x) = Some (record { number = n; grade = g; readings = x })
-addition_of (define_grade g x) = None
-addition_of (define_class s x) = None
-addition_of (scrap_culm n) = None
-addition_of (open_ticket m x s d f) = None
-addition_of (check_out m) = None
-addition_of (check_in m) = None
-addition_of (hold m n) = None
-addition_of (free m n) = None
-addition_of (judge m) = None
-addition_of (set_member m) = None
-addition_of (drop_ticket m) = None
-addition_of (strike m) = None
-addition_of (load m d f) = None
-addition_of (judge_without m n) = None
-addition_of (look_culm n) = None
-addition_of (look_member m) = None
-addition_of look_counts = None
+addition_of _ = None
 
 abbrev pub scraps : Order → ℕ
 scraps (scrap_culm n) = 1
-scraps (add_culm n g x) = 0
-scraps (define_grade g x) = 0
-scraps (define_class s x) = 0
-scraps (open_ticket m x s d f) = 0
-scraps (check_out m) = 0
-scraps (check_in m) = 0
-scraps (hold m n) = 0
-scraps (free m n) = 0
-scraps (judge m) = 0
-scraps (set_member m) = 0
-scraps (drop_ticket m) = 0
-scraps (strike m) = 0
-scraps (load m d f) = 0
-scraps (judge_without m n) = 0
-scraps (look_culm n) = 0
-scraps (look_member m) = 0
-scraps look_counts = 0
+scraps _ = 0
 
 -- the order of a call that is accepted
 abbrev pub order_in : Result Order MeasureFault → Option Order
@@ -141,7 +88,7 @@ order_in (Err f) = None
 order_in (Ok o) = Some o
 
 abbrev pub accepted_order : Rule → Ledger → Call → Option Order
-accepted_order rule l c = cond (is_refused (told rule l c)) None (order_in (measured c))
+accepted_order rule l c = cond (is_err (refusal rule l c)) None (order_in (measured c))
 
 abbrev pub one_if : Option Addition → ℕ
 one_if None = 0
@@ -188,16 +135,16 @@ pub record Began (rule : Rule) (past : List Call) (l : Ledger) : Type 0 where
   pub led : l ≡ run rule (empty_ledger culm_rows member_rows) past
 
 -- what is true of every run: calls on a ledger to which earlier calls led, the answers given, and where they led
-pub record Whole (code : Meaning) (before after : Ledger) (calls : List Call) (given : List Answer) : Type 0 where
+pub record Whole (code : Meaning) (before after : Ledger) (calls : List Call) (given : List (Result Answer BookFault)) : Type 0 where
   pub every_answer_is_the_tables : given ≡ answers code.rule before calls
   pub the_ledger_is_the_runs : after ≡ run code.rule before calls
-  pub refused_calls_change_nothing : (i : ℕ) → i < length calls → is_refused (slice_index_or given i Done) ≡ true
+  pub refused_calls_change_nothing : (i : ℕ) → i < length calls → is_err (slice_index_or given i (Ok Done)) ≡ true
       → ledger_at code.rule before calls (suc i) ≡ ledger_at code.rule before calls i
   pub standing_members_meet_every_clause : (past : List Call) → Began code.rule past before → StandingMeet code after
   pub accepted_questions_meet_every_clause : (past : List Call) → Began code.rule past before → (i : ℕ) (q : Question) → i < length calls
-      → is_refused (slice_index_or given i Done) ≡ false → asked (ledger_at code.rule before calls i) (call_at calls i) ≡ Some q → MeetsEveryClause code q
+      → is_err (slice_index_or given i (Ok Done)) ≡ false → asked (ledger_at code.rule before calls i) (call_at calls i) ≡ Some q → MeetsEveryClause code q
   pub strength_refusals_name_a_broken_clause : (past : List Call) → Began code.rule past before → (i k : ℕ) → i < length calls
-      → slice_index_or given i Done ≡ Refused (Clause k)
+      → slice_index_or given i (Ok Done) ≡ Err (Clause k)
       → (q : Question) × (asked (ledger_at code.rule before calls i) (call_at calls i) ≡ Some q) × Broken code q k
   pub culms_add_up_to_added_less_scrapped : (past : List Call) (b : Began code.rule past before)
       → (counts after).rack + (counts after).held + (counts after).standing

@@ -1,7 +1,7 @@
 -- The table of refusals 8 to 23, and what an accepted call writes and answers. Assumes nothing.
 use Rattle.std.specs.Prelude.{ℕ, ◌-◌, Bool, true, false, cond, not, List, [], ◌∷◌, map, length, Some, None, Ok, Err, count_by, Option, Result, ◌==◌, nat_lt, slice_set}
 use Rattle.quantities.specs.declared.basis.DesignBasis.{DesignBasis}
-use Rattle.quantities.specs.declared.class.ServiceClass.{ServiceClass}
+use Rattle.quantities.specs.Classes.{ServiceClass}
 use Rattle.quantities.specs.declared.duration.Duration.{Duration}
 use Rattle.quantities.specs.declared.fault.MeasureFault.{MeasureFault}
 use Rattle.quantities.specs.declared.forces.Forces.{Forces}
@@ -9,15 +9,15 @@ use Rattle.quantities.specs.declared.grade.Grade.{Grade}
 use Rattle.quantities.specs.declared.readings.Readings.{Readings}
 use Rattle.quantities.specs.declared.within.Within.{Within}
 use Rattle.design_code.specs.Meaning.{Rule}
-use Rattle.design_code.specs.declared.verdict.Verdict.{Verdict}
-use Rattle.design_code.specs.declared.verdict.Verdict.TheVariants.{Met, Refused as Against}
+use Rattle.design_code.specs.Verdicts.{Verdict, all_met}
 use Rattle.keyed_table.specs.Rows.{added, without, replaced}
 use Rattle.ledger.specs.Ledger.{Ledger, culm_key, member_key, grade_at, class_at, culm_at, member_at, Piece, bundle, basis_of, at, staged, reloaded, raised, dropped, struck, moved_by, on_rack, held_by, stands_in, is_ticket, stands, is_in_hand, out_of_hand, is_judged, counts, with_grades, with_classes, with_culms, with_members}
 use Rattle.ledger.specs.Orders.{Order, measured}
 use Rattle.ledger.specs.Orders.Order.{define_grade, define_class, add_culm, scrap_culm, open_ticket, check_out, check_in, hold, free, judge, set_member, drop_ticket, strike, load, judge_without, look_culm, look_member, look_counts}
 use Rattle.ledger.specs.declared.answer.Answer.{Answer}
-use Rattle.ledger.specs.declared.answer.Answer.TheVariants.{Done, Refused, OneCulm, OneMember, AllCounts}
+use Rattle.ledger.specs.declared.answer.Answer.TheVariants.{Done, OneCulm, OneMember, AllCounts}
 use Rattle.ledger.specs.declared.call.Call.{Call}
+use Rattle.ledger.specs.declared.call.Call.TheVariants.{LookCulm, LookMember, LookCounts}
 use Rattle.ledger.specs.declared.culm.Culm.{Culm}
 use Rattle.ledger.specs.declared.culm.Place.{Place}
 use Rattle.ledger.specs.declared.culm.Place.TheVariants.{Rack, Held}
@@ -69,16 +69,16 @@ question_for cs None = None
 question_for cs (Some m) = question_of cs m
 
 abbrev pub verdict_on : Rule → Option Question → Verdict
-verdict_on rule None = Met
+verdict_on rule None = all_met
 verdict_on rule (Some q) = rule q.culms q.basis q.forces
 
 abbrev pub refuses : Verdict → Bool
-refuses Met = false
-refuses (Against k) = true
+refuses (Ok _) = false
+refuses (Err r) = true
 
 abbrev pub clause_of : Verdict → ℕ
-clause_of Met = 0
-clause_of (Against k) = k
+clause_of (Ok _) = 0
+clause_of (Err r) = r.clause
 
 -- 23, where the code answers a number
 abbrev pub strength : Rule → Option Question → Check
@@ -210,10 +210,7 @@ done_by l (set_member m) = with_culms (change_member l (staged Standing) m) (map
 done_by l (drop_ticket m) = removed l m (dropped m)
 done_by l (strike m) = removed l m (struck m)
 done_by l (load m d f) = change_member l (reloaded d f) m
-done_by l (judge_without m n) = l
-done_by l (look_culm n) = l
-done_by l (look_member m) = l
-done_by l look_counts = l
+done_by l _ = l
 
 -- what a look tells
 abbrev pub told_culm : Option Culm → Answer
@@ -225,25 +222,11 @@ told_member None = Done
 told_member (Some m) = OneMember m
 
 -- what an accepted call is answered
-abbrev pub accepted_by : Ledger → Order → Answer
-accepted_by l (look_culm n) = told_culm (culm_at l n)
-accepted_by l (look_member m) = told_member (member_at l m)
-accepted_by l look_counts = AllCounts (counts l)
-accepted_by l (define_grade g x) = Done
-accepted_by l (define_class s x) = Done
-accepted_by l (add_culm n g x) = Done
-accepted_by l (scrap_culm n) = Done
-accepted_by l (open_ticket m x s d f) = Done
-accepted_by l (check_out m) = Done
-accepted_by l (check_in m) = Done
-accepted_by l (hold m n) = Done
-accepted_by l (free m n) = Done
-accepted_by l (judge m) = Done
-accepted_by l (set_member m) = Done
-accepted_by l (drop_ticket m) = Done
-accepted_by l (strike m) = Done
-accepted_by l (load m d f) = Done
-accepted_by l (judge_without m n) = Done
+abbrev pub accepted_by : Ledger → Call → Answer
+accepted_by l (LookCulm n) = told_culm (culm_at l n)
+accepted_by l (LookMember m) = told_member (member_at l m)
+accepted_by l LookCounts = AllCounts (counts l)
+accepted_by l _ = Done
 
 -- the first fault that the checks call for
 abbrev pub first_of : List Check → Result (Unit {0}) BookFault
@@ -255,21 +238,32 @@ abbrev pub afterwards : {X : Type 0} → List Check → X → X → X
 afterwards [] was new = new
 afterwards (c ∷ cs) was new = cond c.when was (afterwards cs was new)
 
-abbrev pub answered : Answer → Result (Unit {0}) BookFault → Answer
-answered a (Ok _) = a
-answered a (Err f) = Refused f
+-- an order, whose measures are in order: the first fault that it is refused by, and the ledger after it
+abbrev pub order_refusal : Rule → Ledger → Order → Result (Unit {0}) BookFault
+order_refusal rule l o = first_of (checks_of rule l o)
 
-abbrev pub told_of : Rule → Ledger → Result Order MeasureFault → Answer
-told_of rule l (Err f) = Refused (Measure f)
-told_of rule l (Ok o) = answered (accepted_by l o) (first_of (checks_of rule l o))
+abbrev pub after_order : Rule → Ledger → Order → Ledger
+after_order rule l o = afterwards (checks_of rule l o) l (done_by l o)
+
+-- the same where measures may be at fault, which comes first
+abbrev pub refusal_of : Rule → Ledger → Result Order MeasureFault → Result (Unit {0}) BookFault
+refusal_of rule l (Err f) = Err (Measure f)
+refusal_of rule l (Ok o) = order_refusal rule l o
 
 abbrev pub next_of : Rule → Ledger → Result Order MeasureFault → Ledger
 next_of rule l (Err f) = l
-next_of rule l (Ok o) = afterwards (checks_of rule l o) l (done_by l o)
+next_of rule l (Ok o) = after_order rule l o
 
--- one call: its answer, and the ledger after it
-abbrev pub told : Rule → Ledger → Call → Answer
-told rule l c = told_of rule l (measured c)
+-- one call: the first fault that it is refused by, its answer, and the ledger after it
+abbrev pub refusal : Rule → Ledger → Call → Result (Unit {0}) BookFault
+refusal rule l c = refusal_of rule l (measured c)
+
+abbrev pub answered : Answer → Result (Unit {0}) BookFault → Result Answer BookFault
+answered a (Ok _) = Ok a
+answered a (Err f) = Err f
+
+abbrev pub told : Rule → Ledger → Call → Result Answer BookFault
+told rule l c = answered (accepted_by l c) (refusal rule l c)
 
 abbrev pub next : Rule → Ledger → Call → Ledger
 next rule l c = next_of rule l (measured c)

@@ -1,5 +1,4 @@
 use crate::culm::Culm;
-use crate::fault::BookFault;
 use crate::member::Member;
 
 // Culms on the rack, held and standing, standing members, and open tickets.
@@ -12,11 +11,10 @@ pub struct Counts {
     pub tickets: usize,
 }
 
-// The answer to a call.
+// What an accepted call is answered. A call is answered an `Answer` or a `BookFault`.
 #[derive(Clone, Copy)]
 pub enum Answer {
     Done,
-    Refused(BookFault),
     OneCulm(Culm),
     OneMember(Member),
     AllCounts(Counts),

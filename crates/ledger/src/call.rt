@@ -1,41 +1,39 @@
-use quantities::class::RawFactors;
+use quantities::class::RawClass;
 use quantities::duration::Duration;
+use quantities::forces::RawForces;
+use quantities::grade::RawGrade;
+use quantities::readings::RawReadings;
+
+// Numbers for a new ticket, not yet checked.
+#[derive(Clone, Copy)]
+pub struct Opening {
+    pub member: u32,
+    pub length: u32,
+    pub class: u32,
+    pub duration: Duration,
+    pub forces: RawForces,
+}
 
 // A call by plain numbers that nobody has checked.
 #[derive(Clone, Copy)]
 pub enum Call {
     DefineGrade {
         grade: u32,
-        bending: u32,
-        compression: u32,
-        tension: u32,
-        shear: u32,
-        modulus: u32,
+        values: RawGrade,
     },
     DefineClass {
         class: u32,
-        strength: RawFactors,
-        modulus: RawFactors,
+        factors: RawClass,
     },
     AddCulm {
         culm: u32,
         grade: u32,
-        diameter: u32,
-        wall: u32,
-        straightness: u32,
+        readings: RawReadings,
     },
     ScrapCulm {
         culm: u32,
     },
-    Open {
-        member: u32,
-        length: u32,
-        class: u32,
-        duration: Duration,
-        axial: i32,
-        shear: u32,
-        moment: u32,
-    },
+    Open(Opening),
     CheckOut {
         member: u32,
     },
@@ -65,9 +63,7 @@ pub enum Call {
     Load {
         member: u32,
         duration: Duration,
-        axial: i32,
-        shear: u32,
-        moment: u32,
+        forces: RawForces,
     },
     JudgeWithout {
         member: u32,

@@ -1,7 +1,8 @@
 ghost use Rattle.std.specs.Prelude.{◌≡◌};
 ghost use Rattle.ledger.specs.Faults.{book_number, book_place};
-ghost use Rattle.ledger.specs.declared.fault.BookFault.TheVariants.{Measure};
+ghost use Rattle.ledger.specs.declared.fault.BookFault.TheVariants.{Measure, Clause};
 
+use design_code::verdict::Refused;
 use quantities::fault::MeasureFault;
 
 // Why a book refuses a call.
@@ -31,6 +32,16 @@ impl From<MeasureFault> for BookFault {
 
     fn from(inner: MeasureFault) -> BookFault {
         BookFault::Measure(inner)
+    }
+}
+
+impl From<Refused> for BookFault {
+    ghost from_gives = { λ e r. r ≡ Clause e.clause };
+
+    fn from(verdict: Refused) -> BookFault {
+        BookFault::Clause {
+            number: verdict.clause,
+        }
     }
 }
 

@@ -1,14 +1,10 @@
 -- The fields of a line: what stands between its tabs, byte 9. Assumes nothing.
-use Rattle.std.specs.Prelude.{ℕ, cond, List, [], ◌∷◌, ◌++◌, Some, None, Option, ◌==◌}
+use Rattle.std.specs.Prelude.{ℕ, List, [], Some, None, Option, ◌==◌}
 use Rattle.std.specs.Borrow.{Bor}
-
--- after the bytes of the first field so far
-abbrev pub fields_from : List ℕ → List ℕ → List (List ℕ)
-fields_from field [] = field ∷ []
-fields_from field (c ∷ cs) = cond (c == 9) (field ∷ fields_from [] cs) (fields_from (field ++ (c ∷ [])) cs)
+use Rattle.std.specs.List.{slice_split}
 
 abbrev pub fields_of : List ℕ → List (List ℕ)
-fields_of line = fields_from [] line
+fields_of line = slice_split (λ c. c == 9) line
 
 -- of what is left of a line, if anything is
 abbrev pub fields_left : Option (Bor (List ℕ)) → List (List ℕ)

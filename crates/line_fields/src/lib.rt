@@ -1,4 +1,4 @@
-// Fields between tabs, and the numbers that they write, out of plain bytes.
+//! Fields between tabs, and the numbers that they write, out of plain bytes.
 
 #![tactic(auto)]
 

@@ -2,7 +2,7 @@
 use Rattle.std.specs.Prelude.{ℕ, ◌+◌, ◌-◌, cond, List, [], length, ℤ, Some, None, Ok, Err, Option, Result, ◌==◌, slice_index, slice_index_or}
 use Rattle.quantities.specs.Durations.{duration_of}
 use Rattle.quantities.specs.Held.{and_then}
-use Rattle.quantities.specs.declared.class.RawFactors.{RawFactors}
+use Rattle.quantities.specs.declared.class.Factors.{Factors}
 use Rattle.quantities.specs.declared.duration.Duration.{Duration}
 use Rattle.ledger.specs.declared.call.Call.{Call}
 use Rattle.ledger.specs.declared.call.Call.TheVariants.{DefineGrade, DefineClass, AddCulm, ScrapCulm, Open as OpenTicket, Hold as HoldCulm, Free as FreeCulm, Judge as JudgeTicket, Set as SetMember, DropTicket, Strike as StrikeMember, Load as LoadMember, JudgeWithout, LookCounts}
@@ -45,7 +45,7 @@ signed place fs rest = and_then (signed_field (at place fs)) rest
 abbrev pub duration : {X : Type 0} → ℕ → List Placed → (Duration → Result X LineFault) → Result X LineFault
 duration place fs rest = and_then (duration_field (at place fs)) rest
 
-abbrev pub factors : ℕ → List Placed → Result RawFactors LineFault
+abbrev pub factors : ℕ → List Placed → Result (Factors ℕ) LineFault
 factors first fs =
     number first fs (λ p.
     number (first + 1) fs (λ t.
@@ -66,14 +66,14 @@ grade_call fs =
     number 5 fs (λ tension.
     number 6 fs (λ shear.
     number 7 fs (λ modulus.
-    Ok (DefineGrade grade bending compression tension shear modulus)))))))
+    Ok (DefineGrade grade (record { bending = bending; compression = compression; tension = tension; shear = shear; modulus = modulus }))))))))
 
 abbrev pub class_call : List Placed → Result Call LineFault
 class_call fs =
     number 2 fs (λ class.
     and_then (factors 3 fs) (λ strength.
     and_then (factors 6 fs) (λ modulus.
-    Ok (DefineClass class strength modulus))))
+    Ok (DefineClass class (record { strength = strength; modulus = modulus })))))
 
 abbrev pub culm_call : List Placed → Result Call LineFault
 culm_call fs =
@@ -82,7 +82,7 @@ culm_call fs =
     number 4 fs (λ diameter.
     number 5 fs (λ wall.
     number 6 fs (λ straightness.
-    Ok (AddCulm culm grade diameter wall straightness))))))
+    Ok (AddCulm culm grade (record { diameter = diameter; wall = wall; straightness = straightness })))))))
 
 abbrev pub open_call : List Placed → Result Call LineFault
 open_call fs =
@@ -93,7 +93,7 @@ open_call fs =
     signed 6 fs (λ axial.
     number 7 fs (λ shear.
     number 8 fs (λ moment.
-    Ok (OpenTicket member effective class d axial shear moment))))))))
+    Ok (OpenTicket (record { member = member; length = effective; class = class; duration = d; forces = record { axial = axial; shear = shear; moment = moment } })))))))))
 
 abbrev pub load_call : List Placed → Result Call LineFault
 load_call fs =
@@ -102,7 +102,7 @@ load_call fs =
     signed 4 fs (λ axial.
     number 5 fs (λ shear.
     number 6 fs (λ moment.
-    Ok (LoadMember member d axial shear moment))))))
+    Ok (LoadMember member d (record { axial = axial; shear = shear; moment = moment })))))))
 
 abbrev pub call_of : Verb → List Placed → Result Call LineFault
 call_of Grade = grade_call

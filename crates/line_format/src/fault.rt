@@ -4,7 +4,7 @@ ghost use Rattle.line_format.specs.declared.fault.LineFault.TheVariants.{Book};
 
 use ledger::fault::BookFault;
 
-// Why a line is refused.
+/// Why a line is refused.
 #[derive(Clone, Copy, PartialEq, Eq, Debug)]
 pub enum LineFault {
     TooLong,
@@ -23,7 +23,7 @@ impl From<BookFault> for LineFault {
 }
 
 impl LineFault {
-    // The refusal's number.
+    /// The refusal's number.
     pub fn number(self) -> u16
         ensures { result ≡ line_number self }
     {
@@ -36,13 +36,12 @@ impl LineFault {
         }
     }
 
-    // The refusal's place: the count of fields found, the field, or the book's place.
+    /// The refusal's place: the count of fields found, the field, or the book's place.
     pub fn place(self) -> u32
         ensures { result ≡ line_place self }
     {
         match self {
-            LineFault::TooLong => 0,
-            LineFault::UnknownVerb => 0,
+            LineFault::TooLong | LineFault::UnknownVerb => 0,
             LineFault::FieldCount { found } => found,
             LineFault::BadField { place } => place,
             LineFault::Book(fault) => fault.place(),

@@ -1,4 +1,4 @@
-ghost use Rattle.std.specs.Prelude.{◌≡◌, ◌-◌, [], drop, slice_index_or};
+ghost use Rattle.std.specs.Prelude.{◌≡◌, ◌+◌, ◌-◌, ◌<◌, [], drop, slice_index_or};
 ghost use Rattle.line_fields.specs.Cuts.{fields_left};
 ghost use Rattle.line_format.specs.Lines.{field, says, placed_first, placed, one_field, grade_fields, class_fields, culm_fields, open_fields, load_fields, bundle_fields, said, seen, read_line};
 ghost use Rattle.line_format.specs.Verbs.{count_of};
@@ -7,9 +7,10 @@ use crate::fault::LineFault;
 use crate::verb::Verb;
 use line_fields::fields::{behind_first, cut};
 
+// The line service has the same limit, and neither crate knows the other.
 const LONGEST_LINE: usize = 80;
 
-// The bytes of a field, and which field of its line it is; the verb is field 1.
+/// The bytes of a field, and which field of its line it is; the verb is field 1.
 #[derive(Clone, Copy)]
 pub struct Field<'a> {
     pub place: u32,
@@ -66,14 +67,14 @@ pub struct LoadFields<'a> {
     pub moment: Field<'a>,
 }
 
-// The fields of a line on a culm in the bundle of a member.
+/// The fields of a line on a culm in the bundle of a member.
 #[derive(Clone, Copy)]
 pub struct BundleFields<'a> {
     pub member: Field<'a>,
     pub culm: Field<'a>,
 }
 
-// A line by its verb, with its fields, before any of them is a number.
+/// A line by its verb, with its fields, before any of them is a number.
 #[derive(Clone, Copy)]
 pub enum Line<'a> {
     Grade(GradeFields<'a>),
@@ -92,129 +93,127 @@ pub enum Line<'a> {
     Tell,
 }
 
-// The next field of what is left of a line, empty where nothing is, and what is left then.
-fn next<'a>(place: u32, left: Option<&'a [u8]>) -> (Field<'a>, Option<&'a [u8]>)
-    ensures field { placed result.0 ≡ field place (slice_index_or (fields_left left.entry) 0 []) }
-    ensures left { fields_left result.1 ≡ drop 1 (fields_left left.entry) }
-{
-    match left {
-        Some(line) => {
-            let (text, left) = cut(line);
-            (Field { place, text }, left)
+// The fields behind a verb that were not taken yet, and the place of the next.
+#[derive(Clone, Copy)]
+struct Fields<'a> {
+    left: Option<&'a [u8]>,
+    place: u32,
+}
+
+impl<'a> Fields<'a> {
+    // The next field, empty where nothing is left.
+    fn next(&mut self) -> Field<'a>
+        requires { self.old.place < 9 }
+        ensures field { placed result ≡ field self.old.place (slice_index_or (fields_left self.old.left) 0 []) }
+        ensures left { fields_left self.new.left ≡ drop 1 (fields_left self.old.left) }
+        ensures place { self.new.place ≡ self.old.place + 1 }
+    {
+        let place = self.place;
+        self.place += 1;
+        match self.left {
+            Some(line) => {
+                let (text, left) = cut(line);
+                self.left = left;
+                Field { place, text }
+            }
+            None => Field { place, text: b"" },
         }
-        None => (Field { place, text: b"" }, None),
     }
-}
 
-// The fields behind a verb.
-
-fn one_field<'a>(left: Option<&'a [u8]>) -> Field<'a>
-    ensures { one_field result ≡ placed_first 1 2 (fields_left left.entry) }
-{
-    let (only, _) = next(2, left);
-    only
-}
-
-fn bundle_fields<'a>(left: Option<&'a [u8]>) -> BundleFields<'a>
-    ensures { bundle_fields result ≡ placed_first 2 2 (fields_left left.entry) }
-{
-    let (member, left) = next(2, left);
-    let (culm, _) = next(3, left);
-    BundleFields { member, culm }
-}
-
-fn culm_fields<'a>(left: Option<&'a [u8]>) -> CulmFields<'a>
-    ensures { culm_fields result ≡ placed_first 5 2 (fields_left left.entry) }
-{
-    let (culm, left) = next(2, left);
-    let (grade, left) = next(3, left);
-    let (diameter, left) = next(4, left);
-    let (wall, left) = next(5, left);
-    let (straightness, _) = next(6, left);
-    CulmFields {
-        culm,
-        grade,
-        diameter,
-        wall,
-        straightness,
+    // The fields behind the verb, which is field 1.
+    fn behind(left: Option<&'a [u8]>) -> Fields<'a>
+        ensures left { fields_left result.left ≡ fields_left left.entry }
+        ensures place { result.place ≡ 2 }
+    {
+        Fields { left, place: 2 }
     }
-}
 
-fn load_fields<'a>(left: Option<&'a [u8]>) -> LoadFields<'a>
-    ensures { load_fields result ≡ placed_first 5 2 (fields_left left.entry) }
-{
-    let (member, left) = next(2, left);
-    let (duration, left) = next(3, left);
-    let (axial, left) = next(4, left);
-    let (shear, left) = next(5, left);
-    let (moment, _) = next(6, left);
-    LoadFields {
-        member,
-        duration,
-        axial,
-        shear,
-        moment,
+    // The field of a line that has only one behind its verb.
+    // This builder and those below each name the fields of their kind of line, which one function over their number could not.
+    fn only(left: Option<&'a [u8]>) -> Field<'a>
+        ensures { one_field result ≡ placed_first 1 2 (fields_left left.entry) }
+    {
+        Fields::behind(left).next()
     }
-}
 
-fn grade_fields<'a>(left: Option<&'a [u8]>) -> GradeFields<'a>
-    ensures { grade_fields result ≡ placed_first 6 2 (fields_left left.entry) }
-{
-    let (grade, left) = next(2, left);
-    let (bending, left) = next(3, left);
-    let (compression, left) = next(4, left);
-    let (tension, left) = next(5, left);
-    let (shear, left) = next(6, left);
-    let (modulus, _) = next(7, left);
-    GradeFields {
-        grade,
-        bending,
-        compression,
-        tension,
-        shear,
-        modulus,
+    fn bundle(left: Option<&'a [u8]>) -> BundleFields<'a>
+        ensures { bundle_fields result ≡ placed_first 2 2 (fields_left left.entry) }
+    {
+        let mut fields = Fields::behind(left);
+        BundleFields {
+            member: fields.next(),
+            culm: fields.next(),
+        }
     }
-}
 
-fn class_fields<'a>(left: Option<&'a [u8]>) -> ClassFields<'a>
-    ensures { class_fields result ≡ placed_first 7 2 (fields_left left.entry) }
-{
-    let (class, left) = next(2, left);
-    let (strength_permanent, left) = next(3, left);
-    let (strength_transient, left) = next(4, left);
-    let (strength_instantaneous, left) = next(5, left);
-    let (modulus_permanent, left) = next(6, left);
-    let (modulus_transient, left) = next(7, left);
-    let (modulus_instantaneous, _) = next(8, left);
-    ClassFields {
-        class,
-        strength_permanent,
-        strength_transient,
-        strength_instantaneous,
-        modulus_permanent,
-        modulus_transient,
-        modulus_instantaneous,
+    fn culm(left: Option<&'a [u8]>) -> CulmFields<'a>
+        ensures { culm_fields result ≡ placed_first 5 2 (fields_left left.entry) }
+    {
+        let mut fields = Fields::behind(left);
+        CulmFields {
+            culm: fields.next(),
+            grade: fields.next(),
+            diameter: fields.next(),
+            wall: fields.next(),
+            straightness: fields.next(),
+        }
     }
-}
 
-fn open_fields<'a>(left: Option<&'a [u8]>) -> OpenFields<'a>
-    ensures { open_fields result ≡ placed_first 7 2 (fields_left left.entry) }
-{
-    let (member, left) = next(2, left);
-    let (length, left) = next(3, left);
-    let (class, left) = next(4, left);
-    let (duration, left) = next(5, left);
-    let (axial, left) = next(6, left);
-    let (shear, left) = next(7, left);
-    let (moment, _) = next(8, left);
-    OpenFields {
-        member,
-        length,
-        class,
-        duration,
-        axial,
-        shear,
-        moment,
+    fn load(left: Option<&'a [u8]>) -> LoadFields<'a>
+        ensures { load_fields result ≡ placed_first 5 2 (fields_left left.entry) }
+    {
+        let mut fields = Fields::behind(left);
+        LoadFields {
+            member: fields.next(),
+            duration: fields.next(),
+            axial: fields.next(),
+            shear: fields.next(),
+            moment: fields.next(),
+        }
+    }
+
+    fn grade(left: Option<&'a [u8]>) -> GradeFields<'a>
+        ensures { grade_fields result ≡ placed_first 6 2 (fields_left left.entry) }
+    {
+        let mut fields = Fields::behind(left);
+        GradeFields {
+            grade: fields.next(),
+            bending: fields.next(),
+            compression: fields.next(),
+            tension: fields.next(),
+            shear: fields.next(),
+            modulus: fields.next(),
+        }
+    }
+
+    fn class(left: Option<&'a [u8]>) -> ClassFields<'a>
+        ensures { class_fields result ≡ placed_first 7 2 (fields_left left.entry) }
+    {
+        let mut fields = Fields::behind(left);
+        ClassFields {
+            class: fields.next(),
+            strength_permanent: fields.next(),
+            strength_transient: fields.next(),
+            strength_instantaneous: fields.next(),
+            modulus_permanent: fields.next(),
+            modulus_transient: fields.next(),
+            modulus_instantaneous: fields.next(),
+        }
+    }
+
+    fn open(left: Option<&'a [u8]>) -> OpenFields<'a>
+        ensures { open_fields result ≡ placed_first 7 2 (fields_left left.entry) }
+    {
+        let mut fields = Fields::behind(left);
+        OpenFields {
+            member: fields.next(),
+            length: fields.next(),
+            class: fields.next(),
+            duration: fields.next(),
+            axial: fields.next(),
+            shear: fields.next(),
+            moment: fields.next(),
+        }
     }
 }
 
@@ -223,24 +222,24 @@ fn line_of<'a>(verb: Verb, left: Option<&'a [u8]>) -> Line<'a>
     ensures { said result ≡ says verb (placed_first (count_of verb - 1) 2 (fields_left left.entry)) }
 {
     match verb {
-        Verb::Grade => Line::Grade(grade_fields(left)),
-        Verb::Class => Line::Class(class_fields(left)),
-        Verb::Culm => Line::Culm(culm_fields(left)),
-        Verb::Scrap => Line::Scrap(one_field(left)),
-        Verb::Open => Line::Open(open_fields(left)),
-        Verb::Hold => Line::Hold(bundle_fields(left)),
-        Verb::Free => Line::Free(bundle_fields(left)),
-        Verb::Judge => Line::Judge(one_field(left)),
-        Verb::Set => Line::Set(one_field(left)),
-        Verb::Drop => Line::Drop(one_field(left)),
-        Verb::Strike => Line::Strike(one_field(left)),
-        Verb::Load => Line::Load(load_fields(left)),
-        Verb::Without => Line::Without(bundle_fields(left)),
+        Verb::Grade => Line::Grade(Fields::grade(left)),
+        Verb::Class => Line::Class(Fields::class(left)),
+        Verb::Culm => Line::Culm(Fields::culm(left)),
+        Verb::Scrap => Line::Scrap(Fields::only(left)),
+        Verb::Open => Line::Open(Fields::open(left)),
+        Verb::Hold => Line::Hold(Fields::bundle(left)),
+        Verb::Free => Line::Free(Fields::bundle(left)),
+        Verb::Judge => Line::Judge(Fields::only(left)),
+        Verb::Set => Line::Set(Fields::only(left)),
+        Verb::Drop => Line::Drop(Fields::only(left)),
+        Verb::Strike => Line::Strike(Fields::only(left)),
+        Verb::Load => Line::Load(Fields::load(left)),
+        Verb::Without => Line::Without(Fields::bundle(left)),
         Verb::Tell => Line::Tell,
     }
 }
 
-// The line that the bytes are, or why they are none: too long, no verb, or another count of fields than the verb has.
+/// The line that the bytes are, or why they are none: too long, no verb, or another count of fields than the verb has.
 pub fn read(line: &[u8]) -> Result<Line<'_>, LineFault>
     ensures { seen result ≡ read_line line.now }
 {
@@ -248,9 +247,7 @@ pub fn read(line: &[u8]) -> Result<Line<'_>, LineFault>
         return Err(LineFault::TooLong);
     }
     let (word, left) = cut(line);
-    let Some(verb) = Verb::named(word) else {
-        return Err(LineFault::UnknownVerb);
-    };
+    let verb = Verb::try_from(word)?;
     let found = 1 + behind_first(line) as u32;
     if found != verb.count() {
         return Err(LineFault::FieldCount { found });

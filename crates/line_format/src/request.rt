@@ -7,12 +7,15 @@ use crate::line::{
     ClassFields, CulmFields, Field, GradeFields, Line, LoadFields, OpenFields, read,
 };
 use crate::verb::Verb;
-use ledger::call::Call;
+use ledger::call::{Call, Opening};
 use line_fields::numbers::{number, signed};
-use quantities::class::RawFactors;
+use quantities::class::{RawClass, RawFactors};
 use quantities::duration::Duration;
+use quantities::forces::RawForces;
+use quantities::grade::RawGrade;
+use quantities::readings::RawReadings;
 
-// What a line asks for, by plain numbers that nobody has checked.
+/// What a line asks for, by plain numbers that nobody has checked.
 #[derive(Clone, Copy)]
 pub struct Request {
     pub verb: Verb,
@@ -20,41 +23,38 @@ pub struct Request {
 }
 
 // What a field writes, or the refusal at its place.
-
-fn number_in(field: Field<'_>) -> Result<u32, LineFault>
-    ensures { result ≡ number_field (placed field.entry) }
-{
-    match number(field.text) {
-        Some(n) => Ok(n),
-        None => Err(LineFault::BadField { place: field.place }),
+impl Field<'_> {
+    fn bad(self) -> LineFault
+        ensures { result ≡ LineFault.BadField self.entry.place }
+    {
+        LineFault::BadField { place: self.place }
     }
-}
 
-fn signed_in(field: Field<'_>) -> Result<i32, LineFault>
-    ensures { result ≡ signed_field (placed field.entry) }
-{
-    match signed(field.text) {
-        Some(n) => Ok(n),
-        None => Err(LineFault::BadField { place: field.place }),
+    fn number(self) -> Result<u32, LineFault>
+        ensures { result ≡ number_field (placed self.entry) }
+    {
+        number(self.text).ok_or(self.bad())
+    }
+
+    fn signed(self) -> Result<i32, LineFault>
+        ensures { result ≡ signed_field (placed self.entry) }
+    {
+        signed(self.text).ok_or(self.bad())
+    }
+
+    fn duration(self) -> Result<Duration, LineFault>
+        ensures { result ≡ duration_field (placed self.entry) }
+    {
+        duration_of(self.text).ok_or(self.bad())
     }
 }
 
 fn duration_of(text: &[u8]) -> Option<Duration>
     ensures { result ≡ duration_in text.now }
 {
-    if text.len() == 1 {
-        Duration::from_letter(text[0])
-    } else {
-        None
-    }
-}
-
-fn duration_in(field: Field<'_>) -> Result<Duration, LineFault>
-    ensures { result ≡ duration_field (placed field.entry) }
-{
-    match duration_of(field.text) {
-        Some(duration) => Ok(duration),
-        None => Err(LineFault::BadField { place: field.place }),
+    match text {
+        [letter] => Duration::try_from(*letter).ok(),
+        _ => None,
     }
 }
 
@@ -64,12 +64,14 @@ fn grade_call(fields: GradeFields<'_>) -> Result<Call, LineFault>
     ensures { result ≡ grade_call (grade_fields fields.entry) }
 {
     Ok(Call::DefineGrade {
-        grade: number_in(fields.grade)?,
-        bending: number_in(fields.bending)?,
-        compression: number_in(fields.compression)?,
-        tension: number_in(fields.tension)?,
-        shear: number_in(fields.shear)?,
-        modulus: number_in(fields.modulus)?,
+        grade: fields.grade.number()?,
+        values: RawGrade {
+            bending: fields.bending.number()?,
+            compression: fields.compression.number()?,
+            tension: fields.tension.number()?,
+            shear: fields.shear.number()?,
+            modulus: fields.modulus.number()?,
+        },
     })
 }
 
@@ -77,16 +79,18 @@ fn class_call(fields: ClassFields<'_>) -> Result<Call, LineFault>
     ensures { result ≡ class_call (class_fields fields.entry) }
 {
     Ok(Call::DefineClass {
-        class: number_in(fields.class)?,
-        strength: RawFactors {
-            permanent: number_in(fields.strength_permanent)?,
-            transient: number_in(fields.strength_transient)?,
-            instantaneous: number_in(fields.strength_instantaneous)?,
-        },
-        modulus: RawFactors {
-            permanent: number_in(fields.modulus_permanent)?,
-            transient: number_in(fields.modulus_transient)?,
-            instantaneous: number_in(fields.modulus_instantaneous)?,
+        class: fields.class.number()?,
+        factors: RawClass {
+            strength: RawFactors {
+                permanent: fields.strength_permanent.number()?,
+                transient: fields.strength_transient.number()?,
+                instantaneous: fields.strength_instantaneous.number()?,
+            },
+            modulus: RawFactors {
+                permanent: fields.modulus_permanent.number()?,
+                transient: fields.modulus_transient.number()?,
+                instantaneous: fields.modulus_instantaneous.number()?,
+            },
         },
     })
 }
@@ -95,37 +99,43 @@ fn culm_call(fields: CulmFields<'_>) -> Result<Call, LineFault>
     ensures { result ≡ culm_call (culm_fields fields.entry) }
 {
     Ok(Call::AddCulm {
-        culm: number_in(fields.culm)?,
-        grade: number_in(fields.grade)?,
-        diameter: number_in(fields.diameter)?,
-        wall: number_in(fields.wall)?,
-        straightness: number_in(fields.straightness)?,
+        culm: fields.culm.number()?,
+        grade: fields.grade.number()?,
+        readings: RawReadings {
+            diameter: fields.diameter.number()?,
+            wall: fields.wall.number()?,
+            straightness: fields.straightness.number()?,
+        },
     })
 }
 
 fn open_call(fields: OpenFields<'_>) -> Result<Call, LineFault>
     ensures { result ≡ open_call (open_fields fields.entry) }
 {
-    Ok(Call::Open {
-        member: number_in(fields.member)?,
-        length: number_in(fields.length)?,
-        class: number_in(fields.class)?,
-        duration: duration_in(fields.duration)?,
-        axial: signed_in(fields.axial)?,
-        shear: number_in(fields.shear)?,
-        moment: number_in(fields.moment)?,
-    })
+    Ok(Call::Open(Opening {
+        member: fields.member.number()?,
+        length: fields.length.number()?,
+        class: fields.class.number()?,
+        duration: fields.duration.duration()?,
+        forces: RawForces {
+            axial: fields.axial.signed()?,
+            shear: fields.shear.number()?,
+            moment: fields.moment.number()?,
+        },
+    }))
 }
 
 fn load_call(fields: LoadFields<'_>) -> Result<Call, LineFault>
     ensures { result ≡ load_call (load_fields fields.entry) }
 {
     Ok(Call::Load {
-        member: number_in(fields.member)?,
-        duration: duration_in(fields.duration)?,
-        axial: signed_in(fields.axial)?,
-        shear: number_in(fields.shear)?,
-        moment: number_in(fields.moment)?,
+        member: fields.member.number()?,
+        duration: fields.duration.duration()?,
+        forces: RawForces {
+            axial: fields.axial.signed()?,
+            shear: fields.shear.number()?,
+            moment: fields.moment.number()?,
+        },
     })
 }
 
@@ -151,7 +161,7 @@ impl Line<'_> {
         }
     }
 
-    // The call that the line asks for, or the first field that is no number.
+    /// The call that the line asks for, or the first field that is no number.
     pub fn call(self) -> Result<Call, LineFault>
         ensures { result ≡ call_in (said self.entry) }
     {
@@ -160,48 +170,46 @@ impl Line<'_> {
             Line::Class(fields) => class_call(fields),
             Line::Culm(fields) => culm_call(fields),
             Line::Scrap(culm) => Ok(Call::ScrapCulm {
-                culm: number_in(culm)?,
+                culm: culm.number()?,
             }),
             Line::Open(fields) => open_call(fields),
             Line::Hold(fields) => Ok(Call::Hold {
-                member: number_in(fields.member)?,
-                culm: number_in(fields.culm)?,
+                member: fields.member.number()?,
+                culm: fields.culm.number()?,
             }),
             Line::Free(fields) => Ok(Call::Free {
-                member: number_in(fields.member)?,
-                culm: number_in(fields.culm)?,
+                member: fields.member.number()?,
+                culm: fields.culm.number()?,
             }),
             Line::Judge(member) => Ok(Call::Judge {
-                member: number_in(member)?,
+                member: member.number()?,
             }),
             Line::Set(member) => Ok(Call::Set {
-                member: number_in(member)?,
+                member: member.number()?,
             }),
             Line::Drop(member) => Ok(Call::DropTicket {
-                member: number_in(member)?,
+                member: member.number()?,
             }),
             Line::Strike(member) => Ok(Call::Strike {
-                member: number_in(member)?,
+                member: member.number()?,
             }),
             Line::Load(fields) => load_call(fields),
             Line::Without(fields) => Ok(Call::JudgeWithout {
-                member: number_in(fields.member)?,
-                culm: number_in(fields.culm)?,
+                member: fields.member.number()?,
+                culm: fields.culm.number()?,
             }),
             Line::Tell => Ok(Call::LookCounts),
         }
     }
 }
 
-// The request that a line of bytes makes, or why it makes none.
+/// The request that a line of bytes makes, or why it makes none.
 pub fn parse(line: &[u8]) -> Result<Request, LineFault>
     ensures { result ≡ request_of line.now }
 {
-    match read(line) {
-        Ok(line) => Ok(Request {
-            verb: line.verb(),
-            call: line.call()?,
-        }),
-        Err(fault) => Err(fault),
-    }
+    let line = read(line)?;
+    Ok(Request {
+        verb: line.verb(),
+        call: line.call()?,
+    })
 }

@@ -1,8 +1,11 @@
 ghost use Rattle.std.specs.Prelude.{◌≡◌, ◌≤◌, length};
-ghost use Rattle.std.specs.Str.{bytes_eq};
+ghost use Rattle.std.specs.Option.{ok_or};
 ghost use Rattle.line_format.specs.Verbs.{word_of, count_of, verb_of};
+ghost use Rattle.line_format.specs.declared.fault.LineFault.TheVariants.{UnknownVerb};
 
-// The first field of a line.
+use crate::fault::LineFault;
+
+/// The first field of a line.
 #[derive(Clone, Copy, PartialEq, Eq, Debug)]
 pub enum Verb {
     Grade,
@@ -21,14 +24,8 @@ pub enum Verb {
     Tell,
 }
 
-fn same(left: &[u8], right: &[u8]) -> bool
-    ensures { result ≡ bytes_eq left.now right.now }
-{
-    left == right
-}
-
 impl Verb {
-    // The verb as a line has it.
+    /// The verb as a line has it.
     pub fn word(self) -> &'static [u8]
         ensures word { result.now ≡ word_of self }
         ensures short { length result.now ≤ 7 }
@@ -51,7 +48,7 @@ impl Verb {
         }
     }
 
-    // How many fields a line of the verb has, the verb included.
+    /// How many fields a line of the verb has, the verb included.
     pub fn count(self) -> u32
         ensures { result ≡ count_of self }
     {
@@ -64,41 +61,31 @@ impl Verb {
             Verb::Class | Verb::Open => 8,
         }
     }
+}
 
-    // The verb that a word is, if it is one.
-    pub fn named(word: &[u8]) -> Option<Verb>
-        ensures { result ≡ verb_of word.now }
-    {
-        if same(word, b"GRADE") {
-            Some(Verb::Grade)
-        } else if same(word, b"CLASS") {
-            Some(Verb::Class)
-        } else if same(word, b"CULM") {
-            Some(Verb::Culm)
-        } else if same(word, b"SCRAP") {
-            Some(Verb::Scrap)
-        } else if same(word, b"OPEN") {
-            Some(Verb::Open)
-        } else if same(word, b"HOLD") {
-            Some(Verb::Hold)
-        } else if same(word, b"FREE") {
-            Some(Verb::Free)
-        } else if same(word, b"JUDGE") {
-            Some(Verb::Judge)
-        } else if same(word, b"SET") {
-            Some(Verb::Set)
-        } else if same(word, b"DROP") {
-            Some(Verb::Drop)
-        } else if same(word, b"STRIKE") {
-            Some(Verb::Strike)
-        } else if same(word, b"LOAD") {
-            Some(Verb::Load)
-        } else if same(word, b"WITHOUT") {
-            Some(Verb::Without)
-        } else if same(word, b"TELL") {
-            Some(Verb::Tell)
-        } else {
-            None
+/// The verb that a word is, or refusal 2 where it is none.
+impl TryFrom<&[u8]> for Verb {
+    type Error = LineFault;
+
+    ghost try_from_gives = { λ word result. result ≡ ok_or (verb_of word.now) UnknownVerb };
+
+    fn try_from(word: &[u8]) -> Result<Verb, LineFault> {
+        match word {
+            b"GRADE" => Ok(Verb::Grade),
+            b"CLASS" => Ok(Verb::Class),
+            b"CULM" => Ok(Verb::Culm),
+            b"SCRAP" => Ok(Verb::Scrap),
+            b"OPEN" => Ok(Verb::Open),
+            b"HOLD" => Ok(Verb::Hold),
+            b"FREE" => Ok(Verb::Free),
+            b"JUDGE" => Ok(Verb::Judge),
+            b"SET" => Ok(Verb::Set),
+            b"DROP" => Ok(Verb::Drop),
+            b"STRIKE" => Ok(Verb::Strike),
+            b"LOAD" => Ok(Verb::Load),
+            b"WITHOUT" => Ok(Verb::Without),
+            b"TELL" => Ok(Verb::Tell),
+            _ => Err(LineFault::UnknownVerb),
         }
     }
 }

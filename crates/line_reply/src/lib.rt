@@ -1,6 +1,8 @@
-// The answer to a line, and its bytes.
+//! The answer to a line, and its bytes.
 
 #![tactic(auto)]
 
-pub mod decimal;
+pub mod line;
 pub mod reply;
+#[cfg(test)]
+mod tests;

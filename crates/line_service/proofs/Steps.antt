@@ -1,6 +1,6 @@
 -- What a call took in, a byte 10 and some plain bytes on; and all calls so far, one call on.
-use Rattle.std.proofs.Common.{◌≡◌, ℕ, ◌+◌, ◌-◌, ◌<◌, ◌≤◌, List, [], ◌∷◌, ◌++◌, length, get_or, take, drop, sym, refl, ap, ◌∙◌, arith, length-take, take-add}
-use Rattle.std.proofs.lemmas.List.{append_assoc, append-nil, take-take, get_or-take, get_or-drop}
+use Rattle.std.proofs.Common.{◌≡◌, ℕ, ◌+◌, ◌<◌, ◌≤◌, List, [], ◌∷◌, ◌++◌, length, get_or, take, drop, sym, refl, ap, ◌∙◌, arith, take-add}
+use Rattle.std.proofs.lemmas.List.{append_assoc, append-nil, length-take-le, take-take, get_or-take}
 use Rattle.line_service.specs.Manner.{Manner, run, answers}
 use Rattle.line_service.specs.Front.{front_of}
 use Rattle.line_service.specs.Lines.{line_end, ended, unended, last_line, Unbroken}
@@ -30,15 +30,13 @@ module _ (m : Manner) where
         out = k.out ∙ ap (λ r. o ++ answers m s r) (sym lines);
       }
 
-  -- the bytes of a chunk from one place to another
-  pub took_part : (s : m.State) (f : List ℕ) (t : m.State) (g o p chunk : List ℕ) (at end : ℕ) → at ≤ end → ((k : ℕ) → at ≤ k → k < end → get_or chunk k 0 ≡ line_end → ⊥) → Took m s f (take at chunk) t g o p → Took m s f (take end chunk) t (front_of (g ++ take (end - at) (drop at chunk))) o p
-  took_part s f t g o p chunk at end le h k =
-      let xs = take (end - at) (drop at chunk) in
-      let plain : Unbroken xs =
-      λ i lt e. let within : i < end - at = omega (arith, length-take (end - at) (drop at chunk)) in
-      h (at + i) (omega arith) (omega arith) (sym (get_or-take (end - at) (drop at chunk) i 0 within ∙ get_or-drop at chunk i 0) ∙ e) in
-      let size : end ≡ at + (end - at) = omega arith in
-      took_same (took_plain s f (take at chunk) t g o p xs plain k) (ap (λ n. take n chunk) size ∙ take-add at (end - at) chunk) refl refl refl
+  -- some bytes of the rest of a chunk, no byte 10 among them
+  pub took_kept : (s : m.State) (f : List ℕ) (t : m.State) (g h o p chunk rest : List ℕ) (past count : ℕ) → rest ≡ drop past chunk → count ≤ length rest → ((k : ℕ) → k < count → get_or rest k 0 ≡ line_end → ⊥) → h ≡ front_of (g ++ take count rest) → Took m s f (take past chunk) t g o p → Took m s f (take (past + count) chunk) t h o p
+  took_kept s f t g h o p chunk rest past count behind within plain e k =
+      let unbroken : Unbroken (take count rest) =
+      λ i lt broken. let early : i < count = omega (arith, length-take-le count rest within) in
+      plain i early (sym (get_or-take count rest i 0 early) ∙ broken) in
+      took_same (took_plain s f (take past chunk) t g o p (take count rest) unbroken k) (take-add past count chunk ∙ ap (λ r. take past chunk ++ take count r) (sym behind)) refl e refl
 
   -- byte 10: the line is answered by its front
   pub took_end : (s : m.State) (f bs : List ℕ) (t : m.State) (g o p : List ℕ) → Took m s f bs t g o p → Took m s f (bs ++ (line_end ∷ [])) (m.next t g) [] o (p ++ m.said t g)
@@ -77,8 +75,3 @@ module _ (m : Manner) where
       let u = unended [] past in
       let last : answers m s (last_line f) ≡ answers m (run m start (ended [] past)) (last_line u) = ap (λ r. answers m s (last_line r)) h.rest ∙ last_front s u ∙ ap (λ r. answers m r (last_line u)) h.state in
       ap (λ r. r ++ answers m s (last_line f)) h.out ∙ append_assoc before (answers m start (ended [] past)) (answers m s (last_line f)) ∙ ap (λ r. before ++ r) (ap (λ r. answers m start (ended [] past) ++ r) last ∙ sym (answers_append m start (ended [] past) (last_line u)))
-
--- a line with a byte in it
-pub last_some : (l : List ℕ) → 0 < length l → last_line l ≡ l ∷ []
-last_some [] h = let no : ⊥ = omega arith in absurd no
-last_some (b ∷ bs) h = refl

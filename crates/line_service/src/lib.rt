@@ -2,10 +2,12 @@
 
 #![tactic(auto)]
 
-mod front;
 pub mod responder;
 pub mod service;
 pub mod whole;
 
 /// How many bytes a line may have, byte 10 not counted.
 pub const LINE_LIMIT: usize = 80;
+
+#[cfg(test)]
+mod tests;

@@ -3,7 +3,8 @@ ghost use Rattle.line_service.specs.Manner.{Manner};
 
 use std::alloc::AllocError;
 
-/// What answers lines one by one.
+/// What answers lines one by one. A trait and no closure: its state and its manner stand in contracts. `capacity` and `wanting` are
+/// clauses, since they speak of the bytes before and after.
 pub trait Responder {
     // How it answers, by states of its own choice.
     ghost manner: { Manner };

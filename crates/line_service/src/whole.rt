@@ -19,9 +19,7 @@ pub fn respond_all<R: Responder + Drop>(
 {
     let mut service = LineService::new(responder);
     for chunk in chunks {
-        if service.feed(chunk, out).is_err() {
-            return Err(AllocError);
-        }
+        service.feed(chunk, out)?;
     }
     service.finish(out)
 }

@@ -1,4 +1,5 @@
 pub mod Held
+pub mod Classes
 pub mod Faults
 pub mod Durations
 pub mod Measures

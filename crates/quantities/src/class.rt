@@ -7,32 +7,32 @@ use crate::fault::MeasureFault;
 use crate::numbers::Percent;
 use crate::within::Within;
 
-// A number for each duration of load, not yet checked.
+// A factor for each duration of load.
 #[derive(Clone, Copy)]
-pub struct RawFactors {
-    pub permanent: u32,
-    pub transient: u32,
-    pub instantaneous: u32,
+pub struct Factors<T> {
+    pub permanent: T,
+    pub transient: T,
+    pub instantaneous: T,
 }
 
-// A factor in percent for each duration of load.
+// The factors of a service class: on strengths and on the modulus of elasticity.
 #[derive(Clone, Copy)]
-pub struct Factors {
-    pub permanent: Percent,
-    pub transient: Percent,
-    pub instantaneous: Percent,
+pub struct Class<T> {
+    pub strength: Factors<T>,
+    pub modulus: Factors<T>,
 }
 
-// A service class: factors on strengths and on the modulus of elasticity.
-#[derive(Clone, Copy)]
-pub struct ServiceClass {
-    pub strength: Factors,
-    pub modulus: Factors,
-}
+// A service class, with factors in percent.
+pub type ServiceClass = Class<Percent>;
 
-impl Factors {
+// Numbers for the factors of a class, not yet checked.
+pub type RawFactors = Factors<u32>;
+
+pub type RawClass = Class<u32>;
+
+impl Factors<Percent> {
     // The factors of which the first stands in the field `first`.
-    fn measured(first: u16, raw: RawFactors) -> Result<Factors, MeasureFault>
+    fn measured(first: u16, raw: RawFactors) -> Result<Factors<Percent>, MeasureFault>
         requires { first ≤ 1000 }
         ensures { result ≡ factors first raw }
     {
@@ -42,9 +42,11 @@ impl Factors {
             instantaneous: Within::in_field(first + 2, raw.instantaneous)?,
         })
     }
+}
 
+impl<T: Copy> Factors<T> {
     // The factor for a duration.
-    pub fn during(&self, duration: Duration) -> Percent
+    pub fn during(&self, duration: Duration) -> T
         ensures { result ≡ factor_for self.now duration }
     {
         match duration {
@@ -57,17 +59,13 @@ impl Factors {
 
 impl ServiceClass {
     // The class whose first strength factor stands in the field `first`, the modulus factors behind.
-    pub fn measured(
-        first: u8,
-        strength: RawFactors,
-        modulus: RawFactors,
-    ) -> Result<ServiceClass, MeasureFault>
-        ensures { result ≡ service_class first strength modulus }
+    pub fn measured(first: u8, raw: RawClass) -> Result<ServiceClass, MeasureFault>
+        ensures { result ≡ service_class first raw }
     {
         let first = u16::from(first);
-        Ok(ServiceClass {
-            strength: Factors::measured(first, strength)?,
-            modulus: Factors::measured(first + 3, modulus)?,
+        Ok(Class {
+            strength: Factors::measured(first, raw.strength)?,
+            modulus: Factors::measured(first + 3, raw.modulus)?,
         })
     }
 }

@@ -27,9 +27,9 @@ impl MeasureFault {
         ensures { result ≡ fault_place self }
     {
         match self {
-            MeasureFault::OutOfRange { field } => field,
-            MeasureFault::AtStop { field } => field,
-            MeasureFault::WallTooThick { field } => field,
+            MeasureFault::OutOfRange { field }
+            | MeasureFault::AtStop { field }
+            | MeasureFault::WallTooThick { field } => field,
         }
     }
 }

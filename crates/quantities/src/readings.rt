@@ -15,6 +15,14 @@ pub type Diameter = Within<301, 1999>;
 
 pub type Wall = Within<31, 299>;
 
+// Numbers for the readings of one culm, not yet checked.
+#[derive(Clone, Copy)]
+pub struct RawReadings {
+    pub diameter: u32,
+    pub wall: u32,
+    pub straightness: u32,
+}
+
 // The readings of one culm: outer diameter and wall in tenths of a millimetre, and its straightness,
 // a factor in percent.
 #[derive(Clone, Copy)]

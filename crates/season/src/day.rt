@@ -6,22 +6,23 @@ use design_code::code::DesignCode;
 use frame_book::book::Book;
 use ledger::answer::Answer;
 use ledger::call::Call;
+use ledger::fault::BookFault;
 use ledger::member::Member;
 use std::alloc::{AllocError, Global};
 use stock::row::CulmRow;
 
 // Plays the calls on an empty book over the rows.
 pub fn day<C: DesignCode>(
-    heap: Global,
+    alloc: Global,
     code: &C,
     culms: &mut [CulmRow],
     members: &mut [Member],
     calls: &[Call],
-) -> Result<Vec<Answer>, AllocError>
+) -> Result<Vec<Result<Answer, BookFault>>, AllocError>
     ensures { MatchResult result
         (λ v. Day (C.DesignCode.meaning code.now) (min 4096 (length culms.old)) (min 512 (length members.old)) calls.now v.items)
         (λ _. Unit {0}) }
 {
     let mut book = Book::new(culms, members);
-    play(heap, code, &mut book, calls)
+    play(alloc, code, &mut book, calls)
 }

@@ -6,32 +6,59 @@
 mod tests {
     use frame_book::book::Book;
     use ledger::answer::{Answer, Counts};
-    use ledger::call::Call;
+    use ledger::call::{Call, Opening};
     use ledger::culm::{Culm, Place};
+    use ledger::fault::BookFault;
     use ledger::member::{Member, Stage};
-    use quantities::class::{RawFactors, ServiceClass};
+    use quantities::class::{RawClass, RawFactors, ServiceClass};
     use quantities::duration::Duration;
     use quantities::fault::MeasureFault;
-    use quantities::forces::Forces;
-    use quantities::grade::Grade;
+    use quantities::forces::{Forces, RawForces};
+    use quantities::grade::{Grade, RawGrade};
     use quantities::numbers::EffectiveLength;
-    use quantities::readings::Readings;
+    use quantities::readings::{RawReadings, Readings};
     use season::play;
     use shop_code::shop::shop_code;
     use std::test::Fail;
     use stock::row::CulmRow;
 
-    const STRENGTH: RawFactors = RawFactors {
-        permanent: 55,
-        transient: 65,
-        instantaneous: 85,
+    const GRADE: RawGrade = RawGrade {
+        bending: 658,
+        compression: 497,
+        tension: 984,
+        shear: 79,
+        modulus: 1300,
     };
 
-    const MODULUS: RawFactors = RawFactors {
-        permanent: 45,
-        transient: 95,
-        instantaneous: 100,
+    const CLASS: RawClass = RawClass {
+        strength: RawFactors {
+            permanent: 55,
+            transient: 65,
+            instantaneous: 85,
+        },
+        modulus: RawFactors {
+            permanent: 45,
+            transient: 95,
+            instantaneous: 100,
+        },
     };
+
+    fn readings(diameter: u32, wall: u32) -> RawReadings {
+        RawReadings {
+            diameter,
+            wall,
+            straightness: 100,
+        }
+    }
+
+    // Forces with no axial one.
+    fn forces(shear: u32, moment: u32) -> RawForces {
+        RawForces {
+            axial: 0,
+            shear,
+            moment,
+        }
+    }
 
     // What a caller's rows hold before a book uses them is of no account.
     fn unused_culm() -> Result<CulmRow, MeasureFault> {
@@ -39,8 +66,8 @@ mod tests {
             culm: Culm {
                 number: 1,
                 grade: 1,
-                strengths: Grade::measured(3, 658, 497, 984, 79, 1300)?,
-                readings: Readings::measured(4, 700, 70, 100)?,
+                strengths: Grade::measured(3, GRADE)?,
+                readings: Readings::measured(4, readings(700, 70))?,
                 place: Place::Rack,
             },
             aside: false,
@@ -52,9 +79,9 @@ mod tests {
             number: 1,
             length: EffectiveLength::in_field(3, 2000)?,
             class: 2,
-            factors: ServiceClass::measured(3, STRENGTH, MODULUS)?,
+            factors: ServiceClass::measured(3, CLASS)?,
             duration: Duration::Transient,
-            forces: Forces::measured(6, 0, 0, 0)?,
+            forces: Forces::measured(6, forces(0, 0))?,
             stage: Stage::Standing,
         })
     }
@@ -63,42 +90,32 @@ mod tests {
         Call::AddCulm {
             culm,
             grade,
-            diameter,
-            wall,
-            straightness: 100,
+            readings: readings(diameter, wall),
         }
     }
 
     fn open(member: u32, shear: u32, moment: u32) -> Call {
-        Call::Open {
+        Call::Open(Opening {
             member,
             length: 2000,
             class: 2,
             duration: Duration::Transient,
-            axial: 0,
-            shear,
-            moment,
-        }
+            forces: forces(shear, moment),
+        })
     }
 
     fn load(member: u32, duration: Duration, shear: u32, moment: u32) -> Call {
         Call::Load {
             member,
             duration,
-            axial: 0,
-            shear,
-            moment,
+            forces: forces(shear, moment),
         }
     }
 
     fn define_grade() -> Call {
         Call::DefineGrade {
             grade: 1,
-            bending: 658,
-            compression: 497,
-            tension: 984,
-            shear: 79,
-            modulus: 1300,
+            values: GRADE,
         }
     }
 
@@ -106,17 +123,11 @@ mod tests {
     #[derive(Clone, Copy)]
     struct Step(Call, u16, u32);
 
-    fn number_of(answer: Answer) -> u16 {
+    // Number and place of a refusal; both 0 where the call is accepted.
+    fn refusal(answer: &Result<Answer, BookFault>) -> (u16, u32) {
         match answer {
-            Answer::Refused(fault) => fault.number(),
-            _ => 0,
-        }
-    }
-
-    fn place_of(answer: Answer) -> u32 {
-        match answer {
-            Answer::Refused(fault) => fault.place(),
-            _ => 0,
+            Ok(_) => (0, 0),
+            Err(fault) => (fault.number(), fault.place()),
         }
     }
 
@@ -128,8 +139,7 @@ mod tests {
             Step(
                 Call::DefineClass {
                     class: 2,
-                    strength: STRENGTH,
-                    modulus: MODULUS,
+                    factors: CLASS,
                 },
                 0,
                 0,
@@ -263,15 +273,11 @@ mod tests {
         let mut members = [unused_member()?; 4];
         let mut book = Book::new(&mut culms, &mut members);
         let steps = afternoon();
-        let mut calls = Vec::with_capacity(rt.alloc(), steps.len())?;
-        for step in &steps {
-            calls.push(step.0)?;
-        }
+        let calls: Vec<Call> = steps.iter().map(|step| step.0).collect(rt.alloc())?;
         let given = play(rt.alloc(), &shop_code(), &mut book, &calls)?;
         assert!(rt; given.len() == 44);
-        for at in 0..44 {
-            assert_eq!(rt; number_of(given[at]), steps[at].1);
-            assert_eq!(rt; place_of(given[at]), steps[at].2);
+        for (answer, step) in given.iter().zip(&steps) {
+            assert_eq!(rt; refusal(answer), (step.1, step.2));
         }
         let left = Counts {
             rack: 2,

@@ -6,11 +6,10 @@
 #![tactic(auto)]
 
 ghost use Rattle.std.specs.Prelude.{◌≡◌, ◌+◌, ◌<◌, ◌≤◌, [], ◌++◌, length, IfOk, vec_len, vec_capacity, OnErr, OnOk};
-ghost use Rattle.line_service.specs.Front.{bytes_of};
 ghost use Rattle.line_service.specs.Manner.{run, answers};
 ghost use Rattle.serving.specs.Reads.{read_lines};
 
-use anyhow::anyhow;
+use anyhow::{anyhow, bail};
 use line_service::responder::Responder;
 use line_service::service::LineService;
 use std::alloc::AllocError;
@@ -19,16 +18,17 @@ use std::io::{ErrorKind, Read, Write};
 // How many bytes are read at once.
 const CHUNK: usize = 65536;
 
-/// Has the responder answer all of standard input. Nothing says that an input ends, so the reads are counted.
+/// Has the responder answer all of standard input.
 pub fn serve<R: Responder + Drop>(rt: &HostRuntime, responder: R) -> anyhow::Result<()> {
     let mut service = LineService::new(responder);
     let mut out = Vec::new(rt.alloc());
+    // Nothing says that an input ends, so the reads are counted.
     for _ in 0..u64::MAX {
         if !serve_chunk(rt, &mut service, &mut out)? {
             return Ok(());
         }
     }
-    Err(anyhow!("too much input"))
+    bail!("too much input")
 }
 
 // Reads some input and answers the lines that it ends; the result is false at the end of the input.
@@ -39,14 +39,13 @@ fn serve_chunk<R: Responder>(
 ) -> anyhow::Result<bool>
     ensures forgets { OnOk result (out.new.items ≡ []) }
 {
+    // A buffer and a count, as a read takes and answers them.
     let mut chunk = [0; CHUNK];
     let count = read_chunk(rt, &mut chunk)?;
-    let stopped = take_in(service, &chunk[0..count], out).is_err();
+    let taken = take_in(service, &chunk[..count], out);
     // What was answered is written in any case.
     write_out(rt, out)?;
-    if stopped {
-        return Err(anyhow!("out of memory"));
-    }
+    taken.map_err(|_| anyhow!("out of memory"))?;
     Ok(count > 0)
 }
 
@@ -57,36 +56,31 @@ fn take_in<R: Responder>(
     out: &mut Vec<u8>,
 ) -> Result<(), AllocError>
     ensures after { OnOk result (R.Responder.state service.new.responder ≡
-        run R.Responder.manner (R.Responder.state service.old.responder) (read_lines (bytes_of service.old.front) bytes.now)) }
+        run R.Responder.manner (R.Responder.state service.old.responder) (read_lines (service.old.front.items) bytes.now)) }
     ensures said { OnOk result (out.new.items ≡ out.old.items ++
-        answers R.Responder.manner (R.Responder.state service.old.responder) (read_lines (bytes_of service.old.front) bytes.now)) }
+        answers R.Responder.manner (R.Responder.state service.old.responder) (read_lines (service.old.front.items) bytes.now)) }
     ensures wanting { OnErr result (vec_capacity out.old < vec_len out.new + R.Responder.manner.room) }
 {
     if bytes.is_empty() {
-        return service.finish(out);
+        service.finish(out)
+    } else {
+        Ok(service.feed(bytes, out)?)
     }
-    if service.feed(bytes, out).is_err() {
-        return Err(AllocError);
-    }
-    Ok(())
 }
 
 // Reads what is there, at most as much as the chunk holds, and waits where nothing is there yet; 0 bytes are the end of the input.
 fn read_chunk(rt: &HostRuntime, chunk: &mut [u8]) -> anyhow::Result<usize>
     ensures bound { IfOk result (λ n. n ≤ length chunk.new) }
 {
+    // Nothing says that signals end, so they are counted.
     for _ in 0..u64::MAX {
         match rt.stdin().read(chunk) {
-            Ok(count) => return Ok(count),
             // A signal may come in between.
-            Err(e) => {
-                if e.kind() != ErrorKind::Interrupted {
-                    return Err(e.into());
-                }
-            }
+            Err(error) if error.kind() == ErrorKind::Interrupted => {}
+            read => return Ok(read?),
         }
     }
-    Err(anyhow!("too many signals"))
+    bail!("too many signals")
 }
 
 // Writes the bytes, and forgets them.
@@ -99,3 +93,6 @@ fn write_out(rt: &HostRuntime, out: &mut Vec<u8>) -> anyhow::Result<()>
     out.clear();
     Ok(())
 }
+
+#[cfg(test)]
+mod tests;

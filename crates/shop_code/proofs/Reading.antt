@@ -4,7 +4,7 @@ use Rattle.quantities.specs.declared.basis.DesignBasis.{DesignBasis}
 use Rattle.quantities.specs.declared.forces.Forces.{Forces}
 use Rattle.quantities.specs.declared.readings.Readings.{Readings}
 use Rattle.design_code.specs.Meaning.{Judged}
-use Rattle.design_code.specs.declared.verdict.Verdict.{Verdict}
+use Rattle.design_code.specs.Verdicts.{Verdict}
 use Rattle.shop_code.specs.Shop.{shop_meaning}
 use Rattle.shop_code.specs.Verdicts.{ShopVerdict}
 

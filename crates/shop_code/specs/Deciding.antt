@@ -3,13 +3,12 @@ use Rattle.std.specs.Prelude.{ℕ, zero, suc, ◌-◌, ◌*◌, ℤ, pos, negsuc
 use Rattle.exact.specs.Deciding.{at_most, both}
 use Rattle.clauses.specs.Clauses.{InTension, InCompression}
 use Rattle.clauses.specs.Whole.{Slack, TensionWhole, CompressionWhole}
-use Rattle.design_code.specs.declared.verdict.Verdict.{Verdict}
-use Rattle.design_code.specs.declared.verdict.Verdict.TheVariants.{Met, Refused}
+use Rattle.design_code.specs.Verdicts.{Verdict, all_met, refused_by}
 
 -- met where the statement holds, else refused by clause k
 abbrev pub verdict_by : {P : Type 0} → ℕ → Dec P → Verdict
-verdict_by k (yes p) = Met
-verdict_by k (no g) = Refused k
+verdict_by k (yes p) = all_met
+verdict_by k (no g) = refused_by k
 
 abbrev pub slack? : (w p q : ℕ) → Dec (Slack w p q)
 slack? w p q = both (at_most w p) (both (at_most w q) (at_most (w * w) (5 * ((p - w) * (q - w)))))

@@ -3,14 +3,11 @@ use Rattle.std.specs.Prelude.{◌<◌, List, length}
 use Rattle.exact.specs.Fraction.{Fraction, over}
 use Rattle.exact.specs.Laws.{Positive}
 use Rattle.exact.specs.Pi.{lower_pi, upper_pi}
-use Rattle.exact.specs.Rounding.{Figured}
 use Rattle.quantities.specs.declared.basis.DesignBasis.{DesignBasis}
 use Rattle.quantities.specs.declared.readings.Readings.{Readings}
 use Rattle.capacity.specs.Figures.{moment_figure, shear_figure, tension_figure, crushing_figure, buckling_figure}
-use Rattle.capacity.specs.Strengths.{factored_strength}
-use Rattle.capacity.proofs.Allowable.{strength_lies}
 use Rattle.capacity.proofs.Positives.{moment_positive, shear_positive, tension_positive, crushing_positive, buckling_positive, figure_some}
-use Rattle.capacity.proofs.Rounded.{moment_figured, shear_figured, axial_figured, buckling_figured}
+use Rattle.capacity.proofs.Rounded.{moment_figured, shear_figured, tension_figured, crushing_figured, buckling_figured}
 use Rattle.design_code.specs.Meaning.{Bundled}
 use Rattle.clauses.specs.Clauses.{Capacities}
 use Rattle.clauses.specs.Laws.{PositiveAll, AtMostAll, times_all}
@@ -37,32 +34,22 @@ capacities_positive p pp cs b some = record {
 }
 
 module _ (cs : List Readings) (b : DesignBasis) (n : Bundled cs) where
-  tension_figured : Figured (tension_figure cs b) 65536 (capacities_of lower_pi cs b).tension (capacities_of upper_pi cs b).tension
-  tension_figured = axial_figured (factored_strength cs b b.grade.tension.value) cs (strength_lies cs b b.grade.tension).from n.some
-
-  crushing_figured : Figured (crushing_figure cs b) 65536 (capacities_of lower_pi cs b).crushing (capacities_of upper_pi cs b).crushing
-  crushing_figured =
-      axial_figured (factored_strength cs b b.grade.compression.value) cs (strength_lies cs b b.grade.compression).from n.some
-
-  bucklings_figured : Figured (buckling_figure cs b) 65536 (capacities_of lower_pi cs b).buckling (capacities_of upper_pi cs b).buckling
-  bucklings_figured = buckling_figured cs n.some n.few b
-
   pub figures_below : AtMostAll (figures_of cs b) (capacities_of lower_pi cs b)
   figures_below = record {
     moment = (moment_figured cs b).below;
     shear = (shear_figured cs b).below;
-    tension = tension_figured.below;
-    crushing = crushing_figured.below;
-    buckling = bucklings_figured.below;
+    tension = (tension_figured cs b n.some).below;
+    crushing = (crushing_figured cs b n.some).below;
+    buckling = (buckling_figured cs n.some n.few b).below;
   }
 
   pub figures_near : AtMostAll (capacities_of upper_pi cs b) (times_all growth (figures_of cs b))
   figures_near = record {
     moment = near (moment_figure cs b) 32768 _ _ (moment_figured cs b);
     shear = near (shear_figure cs b) 65536 _ _ (shear_figured cs b);
-    tension = near (tension_figure cs b) 65536 _ _ tension_figured;
-    crushing = near (crushing_figure cs b) 65536 _ _ crushing_figured;
-    buckling = near (buckling_figure cs b) 65536 _ _ bucklings_figured;
+    tension = near (tension_figure cs b) 65536 _ _ (tension_figured cs b n.some);
+    crushing = near (crushing_figure cs b) 65536 _ _ (crushing_figured cs b n.some);
+    buckling = near (buckling_figure cs b) 65536 _ _ (buckling_figured cs n.some n.few b);
   }
 
   pub figures_positive : PositiveAll (figures_of cs b)
@@ -71,7 +58,7 @@ module _ (cs : List Readings) (b : DesignBasis) (n : Bundled cs) where
       record {
         moment = record { num = figure_some (moment_figure cs b) 32768 _ _ moment_scale_some u.moment (moment_figured cs b); den = moment_scale_some };
         shear = record { num = figure_some (shear_figure cs b) 65536 _ _ force_scale_some u.shear (shear_figured cs b); den = force_scale_some };
-        tension = record { num = figure_some (tension_figure cs b) 65536 _ _ force_scale_some u.tension tension_figured; den = force_scale_some };
-        crushing = record { num = figure_some (crushing_figure cs b) 65536 _ _ force_scale_some u.crushing crushing_figured; den = force_scale_some };
-        buckling = record { num = figure_some (buckling_figure cs b) 65536 _ _ force_scale_some u.buckling bucklings_figured; den = force_scale_some };
+        tension = record { num = figure_some (tension_figure cs b) 65536 _ _ force_scale_some u.tension (tension_figured cs b n.some); den = force_scale_some };
+        crushing = record { num = figure_some (crushing_figure cs b) 65536 _ _ force_scale_some u.crushing (crushing_figured cs b n.some); den = force_scale_some };
+        buckling = record { num = figure_some (buckling_figure cs b) 65536 _ _ force_scale_some u.buckling (buckling_figured cs n.some n.few b); den = force_scale_some };
       }

@@ -1,5 +1,5 @@
 -- A code that decides one clause at the figures is sound, for every clause that keeps the laws. Assumes nothing.
-use Rattle.std.specs.Prelude.{◌≡◌, ℕ, ◌*◌, ◌≤◌, List}
+use Rattle.std.specs.Prelude.{◌≡◌, ℕ, ◌*◌, ◌≤◌, List, Ok, Err}
 use Rattle.std.proofs.Common.{sym, ap}
 use Rattle.exact.specs.Deciding.{at_most}
 use Rattle.exact.specs.Pi.{lower_pi, upper_pi}
@@ -9,8 +9,7 @@ use Rattle.quantities.specs.declared.readings.Readings.{Readings}
 use Rattle.capacity.specs.Figures.{moment_figure, shear_figure, tension_figure, crushing_figure, buckling_figure}
 use Rattle.design_code.specs.Loads.{recorded, grown}
 use Rattle.design_code.specs.Meaning.{Bundled, Sound}
-use Rattle.design_code.specs.declared.verdict.Verdict.{Verdict}
-use Rattle.design_code.specs.declared.verdict.Verdict.TheVariants.{Met, Refused}
+use Rattle.design_code.specs.Verdicts.{Verdict, all_met, refused_by}
 use Rattle.design_code.specs.Joining.{apart}
 use Rattle.clauses.specs.Clauses.{Bending, Shear, Tension, Compression}
 use Rattle.clauses.specs.Laws.{Clause, ClauseLaws, Both, times_all, times_load}
@@ -22,17 +21,17 @@ use Rattle.shop_code.specs.Shop.{capacities_of, one_clause, bending_meaning, she
 use Rattle.shop_code.specs.Decided.{tension_decided, compression_decided}
 use Rattle.shop_code.specs.Figured.{figures_of, capacities_positive, figures_below, figures_near, figures_positive}
 
-met_says : {P : Type 0} (k : ℕ) (d : Dec P) → verdict_by k d ≡ Met → P
+met_says : {P : Type 0} (k : ℕ) (d : Dec P) → verdict_by k d ≡ all_met → P
 met_says k (yes p) e = p
-met_says k (no g) e = apart k e
+met_says k (no g) e = apart _ e
 
 -- the number of a refusal
 abbrev refusal : Verdict → ℕ
-refusal Met = 0
-refusal (Refused k) = k
+refusal (Ok _) = 0
+refusal (Err r) = r.clause
 
-refused_says : {P : Type 0} (k j : ℕ) (d : Dec P) → verdict_by k d ≡ Refused j → (j ≡ k) × (P → ⊥)
-refused_says k j (yes p) e = apart j (sym e)
+refused_says : {P : Type 0} (k j : ℕ) (d : Dec P) → verdict_by k d ≡ refused_by j → (j ≡ k) × (P → ⊥)
+refused_says k j (yes p) e = apart _ (sym e)
 refused_says k j (no g) e = (sym (ap refusal e), g)
 
 module _ (P : Clause) (laws : ClauseLaws P) (cs : List Readings) (b : DesignBasis) (f : Forces) (n : Bundled cs) where

@@ -7,8 +7,7 @@ use Rattle.quantities.specs.declared.readings.Readings.{Readings}
 use Rattle.clauses.specs.Clauses.{Bending, Shear, Tension, Compression}
 use Rattle.clauses.specs.Laws.{Clause}
 use Rattle.design_code.specs.Loads.{recorded, grown}
-use Rattle.design_code.specs.declared.verdict.Verdict.{Verdict}
-use Rattle.design_code.specs.declared.verdict.Verdict.TheVariants.{Met, Refused}
+use Rattle.design_code.specs.Verdicts.{Verdict, all_met, refused_by}
 use Rattle.shop_code.specs.Shop.{capacities_of, shop_meaning}
 
 -- the clause holds for the recorded forces at the lower p
@@ -35,5 +34,5 @@ pub record RefusedBy (k : ℕ) (cs : List Readings) (b : DesignBasis) (f : Force
 
 pub record ShopVerdict (cs : List Readings) (b : DesignBasis) (f : Forces) (v : Verdict) : Type 0 where
   pub by_the_rule : v ≡ shop_meaning.rule cs b f
-  pub met : v ≡ Met → AllMet cs b f
-  pub refused : (k : ℕ) → v ≡ Refused k → RefusedBy k cs b f
+  pub met : v ≡ all_met → AllMet cs b f
+  pub refused : (k : ℕ) → v ≡ refused_by k → RefusedBy k cs b f

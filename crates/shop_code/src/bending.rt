@@ -6,18 +6,18 @@ ghost use Rattle.shop_code.specs.Shop.{bending_meaning};
 ghost use Rattle.shop_code.specs.Soundness.{bending_sound};
 ghost use Rattle.std.proofs.Common.{ap₂, refl};
 ghost use Rattle.capacity.specs.Figures.{moment_figure};
-ghost use Rattle.shop_code.specs.Alike.{units_same};
+ghost use Rattle.capacity.specs.Alike.{figure_same};
 
-use crate::figures::measured::moment_units;
-use crate::figures::{MOMENT_SCALE, MomentFigure};
+use capacity::figures::moment_figure;
+use capacity::units::MomentFigure;
 use design_code::code::DesignCode;
-use design_code::verdict::Verdict;
+use design_code::verdict::{Refused, Verdict};
 use quantities::bundle::Bundle;
 use quantities::forces::Forces;
 
 // Clause 1: the moment is at most M_r.
 #[derive(Clone, Copy)]
-pub struct BendingCode {}
+pub struct BendingCode;
 
 const BENDING: u32 = 1;
 
@@ -32,19 +32,18 @@ impl DesignCode for BendingCode {
 
     ghost sound = { λ s. bending_sound };
 
-    ghost like = { λ s x y cs b. units_same _ _ (ap₂ moment_figure cs b) };
+    ghost like = { λ s x y cs b. figure_same _ _ (ap₂ moment_figure cs b) };
 
     ghost ruled = { λ s x f. refl };
 
     fn figures(&self, bundle: &Bundle) -> MomentFigure {
-        moment_units(bundle)
+        moment_figure(bundle)
     }
 
     fn judge(&self, figures: &MomentFigure, forces: Forces) -> Verdict {
-        if forces.moment.value as u64 * MOMENT_SCALE as u64 <= figures.units {
-            Verdict::Met
-        } else {
-            Verdict::Refused(BENDING)
-        }
+        Refused::unless(
+            MomentFigure::units_of(forces.moment.value) <= figures.units,
+            BENDING,
+        )
     }
 }

@@ -6,18 +6,18 @@ ghost use Rattle.shop_code.specs.Shop.{shear_meaning};
 ghost use Rattle.shop_code.specs.Soundness.{shear_sound};
 ghost use Rattle.std.proofs.Common.{ap₂, refl};
 ghost use Rattle.capacity.specs.Figures.{shear_figure};
-ghost use Rattle.shop_code.specs.Alike.{units_same};
+ghost use Rattle.capacity.specs.Alike.{figure_same};
 
-use crate::figures::measured::shear_units;
-use crate::figures::{FORCE_SCALE, ShearFigure};
+use capacity::figures::shear_figure;
+use capacity::units::ShearFigure;
 use design_code::code::DesignCode;
-use design_code::verdict::Verdict;
+use design_code::verdict::{Refused, Verdict};
 use quantities::bundle::Bundle;
 use quantities::forces::Forces;
 
-// Clause 2: the shear force is at most V_r.
+// Clause 2: the shear force is at most V_r. A code of its own beside bending: figure, force, meaning and soundness all differ.
 #[derive(Clone, Copy)]
-pub struct ShearCode {}
+pub struct ShearCode;
 
 const SHEAR: u32 = 2;
 
@@ -32,19 +32,18 @@ impl DesignCode for ShearCode {
 
     ghost sound = { λ s. shear_sound };
 
-    ghost like = { λ s x y cs b. units_same _ _ (ap₂ shear_figure cs b) };
+    ghost like = { λ s x y cs b. figure_same _ _ (ap₂ shear_figure cs b) };
 
     ghost ruled = { λ s x f. refl };
 
     fn figures(&self, bundle: &Bundle) -> ShearFigure {
-        shear_units(bundle)
+        shear_figure(bundle)
     }
 
     fn judge(&self, figures: &ShearFigure, forces: Forces) -> Verdict {
-        if forces.shear.value as u64 * FORCE_SCALE as u64 <= figures.units {
-            Verdict::Met
-        } else {
-            Verdict::Refused(SHEAR)
-        }
+        Refused::unless(
+            ShearFigure::units_of(forces.shear.value) <= figures.units,
+            SHEAR,
+        )
     }
 }

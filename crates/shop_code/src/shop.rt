@@ -16,8 +16,8 @@ pub type ShopCode = Joined<Joined<Joined<BendingCode, ShearCode>, TensionCode>, 
 
 pub fn shop_code() -> ShopCode {
     Joined(
-        Joined(Joined(BendingCode {}, ShearCode {}), TensionCode {}),
-        CompressionCode {},
+        Joined(Joined(BendingCode, ShearCode), TensionCode),
+        CompressionCode,
     )
 }
 

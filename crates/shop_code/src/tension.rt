@@ -1,23 +1,24 @@
-ghost use Rattle.std.specs.Prelude.{◌≡◌, Decides};
+ghost use Rattle.std.specs.Prelude.{Decides};
 ghost use Rattle.shop_code.specs.Deciding.{verdict_by, PullsWithin, pulls_within?};
-ghost use Rattle.shop_code.specs.Figures.{tension_figures, moment_units, tension_units};
+ghost use Rattle.shop_code.specs.Figures.{tension_figures};
 ghost use Rattle.shop_code.specs.Shop.{tension_meaning};
 ghost use Rattle.shop_code.specs.Soundness.{tension_sound};
 ghost use Rattle.std.proofs.Common.{ap₂, refl};
 ghost use Rattle.capacity.specs.Figures.{moment_figure, tension_figure};
-ghost use Rattle.shop_code.specs.Alike.{units_same};
+ghost use Rattle.shop_code.specs.Alike.{tension_same};
 
-use crate::figures::measured::{moment_units, tension_units};
-use crate::figures::{FORCE_SCALE, MOMENT_SCALE, TensionFigures};
+use crate::figures::TensionFigures;
 use crate::whole::tension_whole;
+use capacity::figures::{moment_figure, tension_figure};
+use capacity::units::{AxialFigure, MomentFigure};
 use design_code::code::DesignCode;
-use design_code::verdict::Verdict;
+use design_code::verdict::{Refused, Verdict};
 use quantities::bundle::Bundle;
 use quantities::forces::{AxialForce, Forces, Moment};
 
 // Clause 3: tension with bending.
 #[derive(Clone, Copy)]
-pub struct TensionCode {}
+pub struct TensionCode;
 
 const TENSION: u32 = 3;
 
@@ -30,10 +31,9 @@ fn pulls_within(figures: &TensionFigures, axial: AxialForce, moment: Moment) -> 
     }
     let pull = -axial.newtons;
     tension_whole(
-        figures.moment.units as u128,
-        figures.tension.units as u128,
-        pull as u128 * FORCE_SCALE as u128,
-        moment.value as u128 * MOMENT_SCALE as u128,
+        figures,
+        AxialFigure::units_of(pull as u32),
+        MomentFigure::units_of(moment.value),
     )
 }
 
@@ -48,25 +48,18 @@ impl DesignCode for TensionCode {
 
     ghost sound = { λ s. tension_sound };
 
-    ghost like = { λ s x y cs b.
-        let m : moment_units x ≡ moment_units y = units_same _ _ (ap₂ moment_figure cs b) in
-        let t : tension_units x ≡ tension_units y = units_same _ _ (ap₂ tension_figure cs b) in
-        λ i. record { moment = m i; tension = t i } };
+    ghost like = { λ s x y cs b. tension_same _ _ (ap₂ moment_figure cs b) (ap₂ tension_figure cs b) };
 
     ghost ruled = { λ s x f. refl };
 
     fn figures(&self, bundle: &Bundle) -> TensionFigures {
         TensionFigures {
-            moment: moment_units(bundle),
-            tension: tension_units(bundle),
+            moment: moment_figure(bundle),
+            tension: tension_figure(bundle),
         }
     }
 
     fn judge(&self, figures: &TensionFigures, forces: Forces) -> Verdict {
-        if pulls_within(figures, forces.axial, forces.moment) {
-            Verdict::Met
-        } else {
-            Verdict::Refused(TENSION)
-        }
+        Refused::unless(pulls_within(figures, forces.axial, forces.moment), TENSION)
     }
 }

@@ -1,6 +1,7 @@
 ghost use Rattle.std.specs.Prelude.{◌*◌, ◌^◌, ◌<◌, Decides};
 ghost use Rattle.clauses.specs.Whole.{Slack, TensionWhole, CompressionWhole};
 
+use crate::figures::{CompressionFigures, TensionFigures};
 use exact::wide::product_le;
 
 // Whether w ≤ p, w ≤ q and w² ≤ 5 (p − w) (q − w).
@@ -11,34 +12,46 @@ fn slack(w: u128, p: u128, q: u128) -> bool
     w <= p && w <= q && product_le(w, w, 5 * (p - w), q - w)
 }
 
-// Whether n / t + m / r ≤ 1: r and m in one unit, t and n in one.
-pub fn tension_whole(r: u128, t: u128, n: u128, m: u128) -> bool
-    requires { (r < 2 ^ 36) × ((t < 2 ^ 43) × ((n < 2 ^ 34) × (m < 2 ^ 31))) }
-    ensures { Decides result (TensionWhole r t n m) }
+// Whether axial / tension + moment / bending ≤ 1, the forces in units of the figures.
+pub fn tension_whole(figures: &TensionFigures, axial: u64, moment: u64) -> bool
+    requires tension { axial < 2 ^ 34 }
+    requires moment { moment < 2 ^ 31 }
+    ensures { Decides result (TensionWhole figures.now.moment.units figures.now.tension.units axial moment) }
 {
-    n * r + m * t <= t * r
+    let bending = u128::from(figures.moment.units);
+    let tension = u128::from(figures.tension.units);
+    u128::from(axial) * bending + u128::from(moment) * tension <= tension * bending
 }
 
 // Whether n has slack within rest / whole of c and of e.
 fn rest_bears(n: u128, whole: u128, rest: u128, c: u128, e: u128) -> bool
-    requires { (n < 2 ^ 34) × ((whole < 2 ^ 82) × ((rest < 2 ^ 82) × ((c < 2 ^ 43) × (e < 2 ^ 46)))) }
+    requires compression { n < 2 ^ 34 }
+    requires whole { whole < 2 ^ 82 }
+    requires rest { rest < 2 ^ 82 }
+    requires crushing_figure { c < 2 ^ 43 }
+    requires buckling_figure { e < 2 ^ 46 }
     ensures { Decides result (Slack (n * whole) (rest * c) (rest * e)) }
 {
     slack(n * whole, rest * c, rest * e)
 }
 
-// Whether compression n with bending m is within r, e and c: r and m in one unit, e, c and n in one.
-pub fn compression_whole(r: u128, e: u128, c: u128, n: u128, m: u128) -> bool
-    requires { (r < 2 ^ 36) × ((e < 2 ^ 46) × ((c < 2 ^ 43) × ((n < 2 ^ 34) × (m < 2 ^ 31)))) }
-    ensures { Decides result (CompressionWhole r e c n m) }
+// Whether an axial force in compression with a moment is within the figures, the forces in units of the figures.
+pub fn compression_whole(figures: &CompressionFigures, axial: u64, moment: u64) -> bool
+    requires compression { axial < 2 ^ 34 }
+    requires moment { moment < 2 ^ 31 }
+    ensures { Decides result (CompressionWhole figures.now.moment.units figures.now.buckling.units figures.now.crushing.units axial moment) }
 {
-    if e <= n {
+    let bending = u128::from(figures.moment.units);
+    let buckling = u128::from(figures.buckling.units);
+    let crushing = u128::from(figures.crushing.units);
+    let press = u128::from(axial);
+    if buckling <= press {
         return false;
     }
-    let whole = r * (e - n);
-    let bent = m * e;
+    let whole = bending * (buckling - press);
+    let bent = u128::from(moment) * buckling;
     if whole < bent {
         return false;
     }
-    rest_bears(n, whole, whole - bent, c, e)
+    rest_bears(press, whole, whole - bent, crushing, buckling)
 }

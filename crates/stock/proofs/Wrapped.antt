@@ -1,7 +1,8 @@
 -- Culms by number, through the rows that hold them. Assumes nothing.
-use Rattle.std.proofs.Common.{◌≡◌, ℕ, suc, ◌+◌, Bool, true, false, cond, eqb, ltb, List, [], ◌∷◌, ◌++◌, map, length, Some, None, count_by, Option, sym, refl, ap, ◌∙◌, subst, ap₂, arith}
+use Rattle.std.proofs.Common.{◌≡◌, ℕ, ◌+◌, Bool, true, false, cond, count_by, eqb, ltb, List, [], ◌∷◌, ◌++◌, map, sym, refl, ap, ◌∙◌, ap₂, arith}
+use Rattle.std.specs.Option.{option_map}
 use Rattle.std.proofs.lemmas.List.Sums.{sum_by-cons}
-use Rattle.std.proofs.lemmas.Bool.{cond-true, cond-false}
+use Rattle.std.proofs.lemmas.Bool.{cond-false, cond_both}
 use Rattle.keyed_table.specs.Rows.{lookup, added, without, replaced}
 use Rattle.keyed_table.proofs.Lookups.{by_test}
 use Rattle.ledger.specs.Ledger.{culm_key, part_of, bundle}
@@ -9,11 +10,7 @@ use Rattle.ledger.specs.declared.culm.Culm.{Culm}
 use Rattle.stock.specs.Rows.{row_key, culms_in, bundle_in, aside_count}
 use Rattle.stock.specs.declared.row.CulmRow.{CulmRow}
 
-abbrev pub culm_in : Option CulmRow → Option Culm
-culm_in None = None
-culm_in (Some r) = Some r.culm
-
-pub lookup_wrapped : (n : ℕ) (rows : List CulmRow) → lookup culm_key n (culms_in rows) ≡ culm_in (lookup row_key n rows)
+pub lookup_wrapped : (n : ℕ) (rows : List CulmRow) → lookup culm_key n (culms_in rows) ≡ option_map (λ r. r.culm) (lookup row_key n rows)
 lookup_wrapped n [] = refl
 lookup_wrapped n (r ∷ rs) =
     by_test (eqb (row_key r) n)
@@ -41,10 +38,6 @@ chosen false r x = refl
 pub replaced_wrapped : (r : CulmRow) (rows : List CulmRow) → culms_in (replaced row_key r rows) ≡ replaced culm_key r.culm (culms_in rows)
 replaced_wrapped r [] = refl
 replaced_wrapped r (x ∷ xs) = ap₂ ◌∷◌ (chosen (eqb (row_key x) (row_key r)) r x) (replaced_wrapped r xs)
-
-pub length_wrapped : (rows : List CulmRow) → length (culms_in rows) ≡ length rows
-length_wrapped [] = refl
-length_wrapped (x ∷ xs) = ap suc (length_wrapped xs)
 
 -- no row is set aside
 abbrev pub AllClear : List CulmRow → Type 0
@@ -75,16 +68,14 @@ none_aside_lem (r ∷ rs) (c, cs) =
 pub clear_added : (x : CulmRow) (rows : List CulmRow) → x.aside ≡ false → AllClear rows → AllClear (added row_key x rows)
 clear_added x [] e c = (e, tt)
 clear_added x (r ∷ rs) e (c, cs) =
-    by_test (ltb (row_key r) (row_key x))
-    (λ t. subst AllClear (sym (cond-true (ltb (row_key r) (row_key x)) _ _ t)) (c, clear_added x rs e cs))
-    (λ f. subst AllClear (sym (cond-false (ltb (row_key r) (row_key x)) _ _ f)) (e, (c, cs)))
+    let rest = clear_added x rs e cs in
+    cond_both (ltb (row_key r) (row_key x)) _ _ AllClear (λ _. (c, rest)) (λ _. (e, (c, cs)))
 
 pub clear_without : (n : ℕ) (rows : List CulmRow) → AllClear rows → AllClear (without row_key n rows)
 clear_without n [] c = tt
 clear_without n (r ∷ rs) (c, cs) =
-    by_test (eqb (row_key r) n)
-    (λ t. subst AllClear (sym (cond-true (eqb (row_key r) n) _ _ t)) (clear_without n rs cs))
-    (λ f. subst AllClear (sym (cond-false (eqb (row_key r) n) _ _ f)) (c, clear_without n rs cs))
+    let rest = clear_without n rs cs in
+    cond_both (eqb (row_key r) n) _ _ AllClear (λ _. rest) (λ _. (c, rest))
 
 pub clear_map : (f : CulmRow → CulmRow) → ((r : CulmRow) → r.aside ≡ false → (f r).aside ≡ false) → (rows : List CulmRow) → AllClear rows → AllClear (map f rows)
 clear_map f keeps [] c = tt
@@ -93,11 +84,11 @@ clear_map f keeps (r ∷ rs) (c, cs) = (keeps r c, clear_map f keeps rs cs)
 pub clear_replaced : (x : CulmRow) (rows : List CulmRow) → x.aside ≡ false → AllClear rows → AllClear (replaced row_key x rows)
 clear_replaced x rows e c =
     clear_map (λ r. cond (eqb (row_key r) (row_key x)) x r)
-    (λ r k. by_test (eqb (row_key r) (row_key x)) (λ t. ap (λ z. z.aside) (cond-true _ x r t) ∙ e) (λ f. ap (λ z. z.aside) (cond-false _ x r f) ∙ k)) rows c
+    (λ r k. cond_both (eqb (row_key r) (row_key x)) x r (λ z. z.aside ≡ false) (λ _. e) (λ _. k)) rows c
 
 pub count_wrapped : (p : Culm → Bool) (rows : List CulmRow) → count_by (λ r. p r.culm) rows ≡ count_by p (culms_in rows)
 count_wrapped p [] = refl
 count_wrapped p (r ∷ rs) =
     sum_by-cons (λ x. cond (p x.culm) 1 0) r rs
-    ∙ (ap (λ n. cond (p r.culm) 1 0 + n) (count_wrapped p rs)
-    ∙ sym (sum_by-cons (λ c. cond (p c) 1 0) r.culm (culms_in rs)))
+    ∙ ap (λ n. cond (p r.culm) 1 0 + n) (count_wrapped p rs)
+    ∙ sym (sum_by-cons (λ c. cond (p c) 1 0) r.culm (culms_in rs))

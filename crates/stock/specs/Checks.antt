@@ -1,11 +1,11 @@
 -- The checks on culms: refusals 10 to 13 and 19 to 21, as the table has them. Assumes nothing.
-use Rattle.std.specs.Prelude.{ℕ, not, List, [], ◌∷◌, length, Ok, Err, Result, nat_lt}
+use Rattle.std.specs.Prelude.{ℕ, not, List, [], ◌∷◌, length, nat_lt}
 use Rattle.quantities.specs.declared.grade.Grade.{Grade}
 use Rattle.quantities.specs.declared.readings.Readings.{Readings}
 use Rattle.keyed_table.specs.Rows.{lookup}
 use Rattle.keyed_table.specs.declared.Refusal.{Refusal}
 use Rattle.keyed_table.specs.declared.Refusal.TheVariants.{Full, NumberTaken, NoSuchRow}
-use Rattle.ledger.specs.Ledger.{culm_key, bundle, on_rack, held_by, stands_in}
+use Rattle.ledger.specs.Ledger.{culm_key, bundle, on_rack, held_by}
 use Rattle.ledger.specs.Table.{Check, check, absent, present, is_not, grade_held, other_grade}
 use Rattle.ledger.specs.declared.culm.Culm.{Culm}
 use Rattle.ledger.specs.declared.culm.Place.TheVariants.{Rack}
@@ -37,14 +37,8 @@ free_checks m n cs =
     check CulmUnknown (absent (lookup culm_key n cs))
     ∷ check NotOfBundle (is_not (held_by m) (lookup culm_key n cs)) ∷ []
 
-abbrev pub without_checks : (m n : ℕ) → List Culm → List Check
-without_checks m n cs =
-    check CulmUnknown (absent (lookup culm_key n cs))
-    ∷ check NotOfBundle (is_not (stands_in m) (lookup culm_key n cs)) ∷ []
-
 -- a refusal of the table, as the book's
-abbrev pub as_fault : Result (Unit {0}) Refusal → Result (Unit {0}) BookFault
-as_fault (Ok _) = Ok tt
-as_fault (Err NumberTaken) = Err CulmKnown
-as_fault (Err Full) = Err NoCulmRow
-as_fault (Err NoSuchRow) = Err CulmUnknown
+abbrev pub culm_fault : Refusal → BookFault
+culm_fault NumberTaken = CulmKnown
+culm_fault Full = NoCulmRow
+culm_fault NoSuchRow = CulmUnknown

@@ -1,31 +1,31 @@
--- What an event does to a culm, by its place: the whole table. Assumes nothing.
-use Rattle.std.specs.Prelude.{cond, ◌==◌}
+-- What an event does to a culm, by its place: the whole table, with none where the event does not fit the place. Assumes nothing.
+use Rattle.std.specs.Prelude.{cond, Some, None, Option, ◌==◌}
 use Rattle.ledger.specs.declared.culm.Place.{Place}
 use Rattle.ledger.specs.declared.culm.Place.TheVariants.{Rack, Held, Standing}
 use Rattle.stock.specs.declared.event.Event.{Event}
 use Rattle.stock.specs.declared.event.Event.TheVariants.{Hold, Free, Set, Drop, Strike, Scrap}
 use Rattle.stock.specs.declared.event.Meeting.{Meeting}
-use Rattle.stock.specs.declared.event.Meeting.TheVariants.{Refused, Moved, Out}
+use Rattle.stock.specs.declared.event.Meeting.TheVariants.{Moved, Out}
 
-abbrev pub meeting : Place → Event → Meeting
-meeting Rack (Hold m) = Moved
-meeting Rack (Free m) = Refused
-meeting Rack (Set m) = Refused
-meeting Rack (Drop m) = Refused
-meeting Rack (Strike m) = Refused
-meeting Rack Scrap = Out
-meeting (Held k) (Hold m) = Refused
-meeting (Held k) (Free m) = cond (k == m) Moved Refused
-meeting (Held k) (Set m) = cond (k == m) Moved Refused
-meeting (Held k) (Drop m) = cond (k == m) Moved Refused
-meeting (Held k) (Strike m) = Refused
-meeting (Held k) Scrap = Refused
-meeting (Standing k) (Hold m) = Refused
-meeting (Standing k) (Free m) = Refused
-meeting (Standing k) (Set m) = Refused
-meeting (Standing k) (Drop m) = Refused
-meeting (Standing k) (Strike m) = cond (k == m) Moved Refused
-meeting (Standing k) Scrap = Refused
+abbrev pub meeting : Place → Event → Option Meeting
+meeting Rack (Hold m) = Some Moved
+meeting Rack (Free m) = None
+meeting Rack (Set m) = None
+meeting Rack (Drop m) = None
+meeting Rack (Strike m) = None
+meeting Rack Scrap = Some Out
+meeting (Held k) (Hold m) = None
+meeting (Held k) (Free m) = cond (k == m) (Some Moved) None
+meeting (Held k) (Set m) = cond (k == m) (Some Moved) None
+meeting (Held k) (Drop m) = cond (k == m) (Some Moved) None
+meeting (Held k) (Strike m) = None
+meeting (Held k) Scrap = None
+meeting (Standing k) (Hold m) = None
+meeting (Standing k) (Free m) = None
+meeting (Standing k) (Set m) = None
+meeting (Standing k) (Drop m) = None
+meeting (Standing k) (Strike m) = cond (k == m) (Some Moved) None
+meeting (Standing k) Scrap = None
 
 abbrev pub place_after : Place → Event → Place
 place_after Rack (Hold m) = Held m

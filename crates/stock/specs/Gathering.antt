@@ -1,5 +1,5 @@
 -- A question about one culm more. Assumes nothing.
-use Rattle.std.specs.Prelude.{ℕ, ◌<◌, [], ◌∷◌, ◌++◌, length, Some, None, Option}
+use Rattle.std.specs.Prelude.{◌<◌, [], ◌∷◌, ◌++◌, length, Some, None, Option}
 use Rattle.quantities.specs.Bundles.{culms_of}
 use Rattle.quantities.specs.declared.bundle.Bundle.{Bundle}
 use Rattle.ledger.specs.Ledger.{Piece}
@@ -14,8 +14,3 @@ extended (Some q) p m = Some (record { culms = q.culms ++ (p.readings ∷ []); b
 abbrev pub Room : Option Bundle → Type 0
 Room None = Unit {0}
 Room (Some b) = length (culms_of b) < 16
-
--- the grade of the first culm, with one culm more of grade g
-abbrev pub first_grade : Option ℕ → ℕ → Option ℕ
-first_grade None g = Some g
-first_grade (Some f) g = Some f

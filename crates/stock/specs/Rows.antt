@@ -1,11 +1,12 @@
 -- The culms in rows, and their bundles while one may be set aside. Assumes nothing.
-use Rattle.std.specs.Prelude.{ℕ, Bool, cond, List, [], map, Some, None, count_by, Option}
+use Rattle.std.specs.Prelude.{ℕ, ◌≤◌, Bool, false, cond, not, ◌&&◌, nat_eq, List, [], map, length, Some, None, count_by, Option}
 use Rattle.std.specs.List.{flat_map}
 use Rattle.quantities.specs.Bundles.{culms_of}
 use Rattle.quantities.specs.declared.bundle.Bundle.{Bundle}
-use Rattle.ledger.specs.Ledger.{Piece, part_of, at}
+use Rattle.ledger.specs.Ledger.{Piece, part_of, bundle, at}
 use Rattle.ledger.specs.Table.{Question}
 use Rattle.ledger.specs.declared.culm.Culm.{Culm}
+use Rattle.ledger.specs.declared.culm.Place.TheVariants.{Rack, Held, Standing}
 use Rattle.ledger.specs.declared.member.Member.{Member}
 use Rattle.stock.specs.Events.{place_after}
 use Rattle.stock.specs.declared.event.Event.{Event}
@@ -20,6 +21,9 @@ culms_in rows = map (λ r. r.culm) rows
 -- a culm that is set aside is of no bundle
 abbrev pub part_in : ℕ → CulmRow → List Piece
 part_in m r = cond r.aside [] (part_of m r.culm r.culm.place)
+
+abbrev pub is_part : ℕ → CulmRow → Bool
+is_part m r = not r.aside && elim r.culm.place [ Rack ↦ false | Held k ↦ nat_eq k m | Standing k ↦ nat_eq k m ]
 
 abbrev pub bundle_in : ℕ → List CulmRow → List Piece
 bundle_in m rows = flat_map (part_in m) rows
@@ -39,3 +43,7 @@ as_question (Some x) m = Some (record { culms = culms_of x; basis = x.basis; for
 -- a row whose culm an event has met
 abbrev pub travelled : Event → CulmRow → CulmRow
 travelled e r = record { culm = at (place_after r.culm.place e) r.culm; aside = r.aside }
+
+-- no bundle is too large
+abbrev pub Small : List Culm → Type 0
+Small cs = (m : ℕ) → length (bundle m cs) ≤ 16

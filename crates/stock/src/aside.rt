@@ -5,7 +5,6 @@ ghost use Rattle.stock.specs.Rows.{bundle_in, as_question};
 
 use crate::gather::gather;
 use crate::row::CulmRow;
-use keyed_table::question::Question;
 use ledger::member::Member;
 use quantities::bundle::Bundle;
 
@@ -16,25 +15,22 @@ pub struct Aside<'a> {
 }
 
 impl<'a> Aside<'a> {
-    fn mark(rows: &'a mut [CulmRow], at: usize) -> Aside<'a>
+    fn mark(rows: &'a mut [CulmRow], at: usize) -> Self
         requires { at < length rows.old }
         ensures rows { result.rows.now ≡ with_mark true at rows.old }
         ensures at { result.at ≡ at }
         ensures lent { result.rows.ghost_name ≡ rows.entry.ghost_name }
     {
-        let mut row = rows[at];
-        row.aside = true;
-        rows[at] = row;
+        rows[at].aside = true;
         Aside { rows, at }
     }
 
-    // The bundle of `m` less the culm that is set aside.
-    fn bundle(&self, m: u32, member: &Member) -> Option<Bundle>
-        requires { length (bundle_in m self.now.rows.now) ≤ 16 }
-        ensures { as_question result member.now ≡ question_of (bundle_in m self.now.rows.now) member.now }
+    // The bundle of `member` less the culm that is set aside.
+    fn bundle(&self, member: &Member) -> Option<Bundle>
+        requires { length (bundle_in member.now.number self.now.rows.now) ≤ 16 }
+        ensures { as_question result member.now ≡ question_of (bundle_in member.now.number self.now.rows.now) member.now }
     {
-        let rows: &[CulmRow] = &*self.rows;
-        gather(rows, m, member)
+        gather(self.rows, member)
     }
 }
 
@@ -43,31 +39,19 @@ impl Drop for Aside<'_> {
         requires { self.at < length self.rows.now }
         ensures { self.exit.0.now ≡ with_mark false self.entry.at self.entry.rows.now }
     {
-        let at = self.at;
-        let mut row = self.rows[at];
-        row.aside = false;
-        self.rows[at] = row;
+        self.rows[self.at].aside = false;
         let Aside { rows: _, at: _ } = self;
     }
 }
 
-// What is the bundle of `m`, for its member, without the culm of the row `at`?
-#[derive(Drop)]
-pub struct Without {
-    pub m: u32,
-    pub member: Member,
-    pub at: usize,
-}
-
-impl Question<CulmRow> for Without {
-    type Answer = Option<Bundle>;
-
-    ghost can = { λ s rows. (s.at < length rows) × ClearAt s.at rows × (length (bundle_in s.m (with_mark true s.at rows)) ≤ 16) };
-
-    ghost says = { λ s rows r. as_question r s.member ≡ question_of (bundle_in s.m (with_mark true s.at rows)) s.member };
-
-    fn ask(&self, rows: &mut [CulmRow]) -> Option<Bundle> {
-        let guard = Aside::mark(rows, self.at);
-        guard.bundle(self.m, &self.member)
-    }
+// The bundle of `member` without the culm of the row `at`, which is back in its bundle however this ends.
+pub fn gather_without(rows: &mut [CulmRow], at: usize, member: &Member) -> Option<Bundle>
+    requires place { at < length rows.old }
+    requires clear { ClearAt at rows.old }
+    requires few { length (bundle_in member.now.number (with_mark true at rows.old)) ≤ 16 }
+    ensures answer { as_question result member.now ≡ question_of (bundle_in member.now.number (with_mark true at rows.old)) member.now }
+    ensures same { rows.new ≡ rows.old }
+{
+    let guard = Aside::mark(rows, at);
+    guard.bundle(member)
 }

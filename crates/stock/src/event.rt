@@ -1,9 +1,7 @@
-ghost use Rattle.std.specs.Prelude.{◌≡◌, if◌then◌else◌, Some, None};
-ghost use Rattle.ledger.specs.Ledger.{at, on_rack, held_by};
-ghost use Rattle.ledger.specs.declared.culm.Place.TheVariants.{Rack, Held};
+ghost use Rattle.std.specs.Prelude.{◌≡◌};
 ghost use Rattle.stock.specs.Events.{meeting, place_after};
 
-use ledger::culm::{Culm, Place};
+use ledger::culm::Place;
 
 // What happens to a culm.
 #[derive(Clone, Copy)]
@@ -16,88 +14,37 @@ pub enum Event {
     Scrap,
 }
 
-// How a culm's place and an event meet.
+// How an event meets a culm that it fits: the culm moves, or goes out of the stock.
 #[derive(Clone, Copy, PartialEq, Eq, Debug)]
 pub enum Meeting {
-    Refused,
     Moved,
     Out,
 }
 
-// The whole table of places and events; the place is changed where the culm moves.
-pub fn meet(place: &mut Place, event: Event) -> Meeting
+// The whole table of places and events; the place is changed where the culm moves. None where the event does not fit the place.
+pub fn meet(place: &mut Place, event: Event) -> Option<Meeting>
     ensures said { result ≡ meeting place.old event }
     ensures after { place.new ≡ place_after place.old event }
 {
     match (*place, event) {
         (Place::Rack, Event::Hold { member }) => {
             *place = Place::Held { member };
-            Meeting::Moved
+            Some(Meeting::Moved)
         }
-        (Place::Rack, Event::Scrap) => Meeting::Out,
-        (Place::Held { member: holder }, Event::Free { member } | Event::Drop { member }) => {
-            if holder != member {
-                return Meeting::Refused;
-            }
+        (Place::Rack, Event::Scrap) => Some(Meeting::Out),
+        (Place::Held { member: holder }, Event::Free { member } | Event::Drop { member })
+            if holder == member => {
             *place = Place::Rack;
-            Meeting::Moved
+            Some(Meeting::Moved)
         }
-        (Place::Held { member: holder }, Event::Set { member }) => {
-            if holder != member {
-                return Meeting::Refused;
-            }
+        (Place::Held { member: holder }, Event::Set { member }) if holder == member => {
             *place = Place::Standing { member };
-            Meeting::Moved
+            Some(Meeting::Moved)
         }
-        (Place::Standing { member: of }, Event::Strike { member }) => {
-            if of != member {
-                return Meeting::Refused;
-            }
+        (Place::Standing { member: of }, Event::Strike { member }) if of == member => {
             *place = Place::Rack;
-            Meeting::Moved
+            Some(Meeting::Moved)
         }
-        _ => Meeting::Refused,
+        _ => None,
     }
-}
-
-// The culm held by the ticket, where it is on the rack.
-pub fn hold_culm(culm: Culm, member: u32) -> Option<Culm>
-    ensures { result ≡ (if on_rack culm then Some (at (Held member) culm) else None) }
-{
-    let mut place = culm.place;
-    match meet(&mut place, Event::Hold { member }) {
-        Meeting::Moved => Some(placed(culm, place)),
-        Meeting::Out | Meeting::Refused => None,
-    }
-}
-
-// The culm on the rack, where the ticket holds it.
-pub fn free_culm(culm: Culm, member: u32) -> Option<Culm>
-    ensures { result ≡ (if held_by member culm then Some (at Rack culm) else None) }
-{
-    let mut place = culm.place;
-    match meet(&mut place, Event::Free { member }) {
-        Meeting::Moved => Some(placed(culm, place)),
-        Meeting::Out | Meeting::Refused => None,
-    }
-}
-
-// Whether the culm may be scrapped.
-pub fn scraps(culm: &Culm) -> bool
-    ensures { result ≡ on_rack culm.now }
-{
-    let mut place = culm.place;
-    match meet(&mut place, Event::Scrap) {
-        Meeting::Out => true,
-        Meeting::Moved | Meeting::Refused => false,
-    }
-}
-
-// The culm in another place.
-pub fn placed(culm: Culm, place: Place) -> Culm
-    ensures { result ≡ at place culm }
-{
-    let mut moved = culm;
-    moved.place = place;
-    moved
 }

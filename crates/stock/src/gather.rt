@@ -1,32 +1,14 @@
-ghost use Rattle.std.specs.Prelude.{◌≡◌, ◌+◌, ◌<◌, ◌≤◌, [], ◌∷◌, length, Some, None};
+ghost use Rattle.std.specs.Prelude.{◌≡◌, ◌≤◌, length, Some, find};
 ghost use Rattle.ledger.specs.Ledger.{piece_of};
 ghost use Rattle.ledger.specs.Table.{question_of, grade_held};
-ghost use Rattle.stock.specs.Gathering.{extended, Room, first_grade};
-ghost use Rattle.stock.specs.Rows.{bundle_in, part_in, as_question};
+ghost use Rattle.stock.specs.Gathering.{extended, Room};
+ghost use Rattle.stock.specs.Rows.{bundle_in, is_part, as_question};
 
 use crate::row::CulmRow;
-use ledger::culm::{Culm, Place};
+use ledger::culm::Culm;
 use ledger::member::Member;
 use quantities::basis::DesignBasis;
 use quantities::bundle::Bundle;
-
-// The culm of a row, where it is of the bundle of `m`.
-pub fn part(row: &CulmRow, m: u32) -> Option<Culm>
-    ensures { part_in m row.now ≡ elim result [ Some c ↦ piece_of c ∷ [] | None ↦ [] ] }
-{
-    if row.aside {
-        return None;
-    }
-    let culm = row.culm;
-    match culm.place {
-        Place::Rack => None,
-        Place::Held { member } | Place::Standing { member } => if member == m {
-            Some(culm)
-        } else {
-            None
-        },
-    }
-}
 
 // The bundle with one culm more, or of one culm.
 fn extend(bundle: Option<Bundle>, culm: Culm, member: &Member) -> Bundle
@@ -34,9 +16,8 @@ fn extend(bundle: Option<Bundle>, culm: Culm, member: &Member) -> Bundle
     ensures { as_question (Some result) member.now ≡ extended (as_question bundle member.now) (piece_of culm) member.now }
 {
     match bundle {
-        Some(found) => {
-            let mut more = found;
-            let _ = more.add(culm.readings);
+        Some(mut more) => {
+            more.add(culm.readings).unwrap();
             more
         }
         None => Bundle::of(
@@ -51,15 +32,16 @@ fn extend(bundle: Option<Bundle>, culm: Culm, member: &Member) -> Bundle
     }
 }
 
-// The bundle of `m` among the rows, for its member; none where it has no culm.
-pub fn gather(rows: &[CulmRow], m: u32, member: &Member) -> Option<Bundle>
-    requires { length (bundle_in m rows.now) ≤ 16 }
-    ensures { as_question result member.now ≡ question_of (bundle_in m rows.now) member.now }
+// The bundle of `member` among the rows; none where it has no culm.
+pub fn gather(rows: &[CulmRow], member: &Member) -> Option<Bundle>
+    requires { length (bundle_in member.now.number rows.now) ≤ 16 }
+    ensures { as_question result member.now ≡ question_of (bundle_in member.now.number rows.now) member.now }
 {
+    // A loop, since its invariant says that each culm finds room; the closure of a fold would have to be told.
     let mut bundle = None;
     for row in rows {
-        if let Some(culm) = part(row, m) {
-            bundle = Some(extend(bundle, culm, member));
+        if row.is_part(member.number) {
+            bundle = Some(extend(bundle, row.culm, member));
         }
     }
     bundle
@@ -72,39 +54,20 @@ pub struct Extent {
     pub grade: Option<u32>,
 }
 
-// The extent with one culm more.
-fn widened(extent: Extent, culm: Culm) -> Extent
-    requires { extent.count < 4096 }
-    ensures count { result.count ≡ extent.count + 1 }
-    ensures grade { result.grade ≡ first_grade extent.grade culm.grade }
+// The first row of the bundle of `member`.
+fn first_of_bundle(rows: &[CulmRow], member: u32) -> Option<CulmRow>
+    ensures { result ≡ find (is_part member) rows.now }
 {
-    let count = extent.count + 1;
-    match extent.grade {
-        Some(grade) => Extent {
-            count,
-            grade: Some(grade),
-        },
-        None => Extent {
-            count,
-            grade: Some(culm.grade),
-        },
-    }
+    rows.iter().copied().find(|row| row.is_part(member))
 }
 
-// The extent of the bundle of `m` among the rows.
-pub fn extent_of(rows: &[CulmRow], m: u32) -> Extent
-    requires { length (bundle_in m rows.now) ≤ 16 }
-    ensures count { result.count ≡ length (bundle_in m rows.now) }
-    ensures grade { result.grade ≡ grade_held (bundle_in m rows.now) }
+// The extent of the bundle of `member` among the rows.
+pub fn extent_of(rows: &[CulmRow], member: u32) -> Extent
+    ensures count { result.count ≡ length (bundle_in member rows.now) }
+    ensures grade { result.grade ≡ grade_held (bundle_in member rows.now) }
 {
-    let mut sum = Extent {
-        count: 0,
-        grade: None,
-    };
-    for row in rows {
-        if let Some(culm) = part(row, m) {
-            sum = widened(sum, culm);
-        }
+    Extent {
+        count: rows.iter().filter(|row| row.is_part(member)).count(),
+        grade: first_of_bundle(rows, member).map(|row| row.culm.grade),
     }
-    sum
 }

@@ -3,10 +3,7 @@
 #![tactic(auto)]
 
 pub mod aside;
-pub mod counting;
 pub mod event;
 pub mod gather;
 pub mod row;
 pub mod stock;
-pub mod travel;
-pub mod whereabouts;

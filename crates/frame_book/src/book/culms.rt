@@ -1,17 +1,15 @@
-ghost use Rattle.std.specs.Prelude.{◌≡◌};
+ghost use Rattle.std.specs.Prelude.{◌≡◌, OnErr};
 ghost use Rattle.design_code.specs.Meaning.{Rule};
 ghost use Rattle.ledger.specs.Orders.Order.{add_culm};
-ghost use Rattle.ledger.specs.Table.{next};
+ghost use Rattle.ledger.specs.Table.{next, refusal, order_refusal, after_order};
 ghost use Rattle.ledger.specs.declared.call.Call.TheVariants.{AddCulm, ScrapCulm};
-ghost use Rattle.stock.specs.Stocks.{OnErr};
-ghost use Rattle.frame_book.specs.Books.{ledger_of, Past, Unchanged};
-ghost use Rattle.frame_book.specs.Calls.{refusal, order_refusal, after_order};
+ghost use Rattle.frame_book.specs.Books.{ledger_of, Past};
 
 use crate::book::Book;
-use crate::places::grade_number;
+use crate::book::define::stated;
 use ledger::fault::BookFault;
 use quantities::numbers::{CulmNumber, GradeNumber};
-use quantities::readings::Readings;
+use quantities::readings::{RawReadings, Readings};
 
 impl<'a> Book<'a> {
     // Puts a new culm on the rack.
@@ -19,18 +17,16 @@ impl<'a> Book<'a> {
         &mut self,
         culm: u32,
         grade: u32,
-        diameter: u32,
-        wall: u32,
-        straightness: u32,
+        readings: RawReadings,
     ) -> Result<(), BookFault>
-        ensures said { (rule : Rule) → result ≡ refusal rule (ledger_of self.old) (AddCulm culm grade diameter wall straightness) }
-        ensures after { (rule : Rule) → ledger_of self.new ≡ next rule (ledger_of self.old) (AddCulm culm grade diameter wall straightness) }
+        ensures said { (rule : Rule) → result ≡ refusal rule (ledger_of self.old) (AddCulm culm grade readings) }
+        ensures after { (rule : Rule) → ledger_of self.new ≡ next rule (ledger_of self.old) (AddCulm culm grade readings) }
         ensures past { Past self.old self.new }
-        ensures refused { OnErr result (Unchanged self.old self.new) }
+        ensures refused { OnErr result (self.new ≡ self.old) }
     {
-        let _ = CulmNumber::in_field(2, culm)?;
-        let grade = grade_number(3, grade)?;
-        let readings = Readings::measured(4, diameter, wall, straightness)?;
+        CulmNumber::in_field(2, culm)?;
+        let grade = GradeNumber::in_field(3, grade)?;
+        let readings = Readings::measured(4, readings)?;
         self.add_measured(culm, grade, readings)
     }
 
@@ -44,12 +40,9 @@ impl<'a> Book<'a> {
         ensures said { (rule : Rule) → result ≡ order_refusal rule (ledger_of self.old) (add_culm culm grade.value readings) }
         ensures after { (rule : Rule) → ledger_of self.new ≡ after_order rule (ledger_of self.old) (add_culm culm grade.value readings) }
         ensures past { Past self.old self.new }
-        ensures refused { OnErr result (Unchanged self.old self.new) }
+        ensures refused { OnErr result (self.new ≡ self.old) }
     {
-        let defined = self.grades[(grade.value - 1) as usize];
-        let Some(strengths) = defined else {
-            return Err(BookFault::NotDefined);
-        };
+        let strengths = stated(&self.grades, grade.value)?;
         self.stock.add(culm, grade.value, strengths, readings)
     }
 
@@ -58,9 +51,9 @@ impl<'a> Book<'a> {
         ensures said { (rule : Rule) → result ≡ refusal rule (ledger_of self.old) (ScrapCulm culm) }
         ensures after { (rule : Rule) → ledger_of self.new ≡ next rule (ledger_of self.old) (ScrapCulm culm) }
         ensures past { Past self.old self.new }
-        ensures refused { OnErr result (Unchanged self.old self.new) }
+        ensures refused { OnErr result (self.new ≡ self.old) }
     {
-        let _ = CulmNumber::in_field(2, culm)?;
+        CulmNumber::in_field(2, culm)?;
         self.stock.scrap(culm)
     }
 }

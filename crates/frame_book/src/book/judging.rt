@@ -1,69 +1,47 @@
-ghost use Rattle.std.specs.Prelude.{◌≡◌};
-ghost use Rattle.ledger.specs.Ledger.{member_at};
+ghost use Rattle.std.specs.Prelude.{◌≡◌, OnErr};
 ghost use Rattle.ledger.specs.Orders.Order.{judge, load, judge_without};
-ghost use Rattle.ledger.specs.Table.{next};
+ghost use Rattle.ledger.specs.Table.{next, refusal, order_refusal, after_order};
 ghost use Rattle.ledger.specs.declared.call.Call.TheVariants.{Load, JudgeWithout};
-ghost use Rattle.stock.specs.Stocks.{OnErr};
-ghost use Rattle.frame_book.specs.Books.{ledger_of, Past, Unchanged, HasNumber};
-ghost use Rattle.frame_book.specs.Calls.{refusal, order_refusal, after_order};
-ghost use Rattle.frame_book.specs.Tickets.{judged, trades};
+ghost use Rattle.frame_book.specs.Books.{ledger_of, Past};
+ghost use Rattle.frame_book.specs.Tickets.{in_hand, trades};
 
-use crate::appraising::{ask_any, ask_some, reload, stands_in};
+use crate::appraising::{ask_any, ask_some};
 use crate::book::Book;
-use crate::stage::{in_hand, is_judged, is_standing, restaged};
-use crate::ticket::{Judged, Unjudged, spend_unjudged};
+use crate::ticket::{Judged, Ticket, Unjudged};
 use design_code::code::DesignCode;
 use ledger::fault::BookFault;
 use ledger::member::{Member, Stage};
 use quantities::duration::Duration;
-use quantities::forces::Forces;
+use quantities::forces::{Forces, RawForces};
 use quantities::numbers::{CulmNumber, MemberNumber};
 
 impl<'a> Book<'a> {
-    // The ticket or member with this number.
-    fn row(&self, member: u32) -> Option<Member>
-        ensures row { result ≡ member_at (ledger_of self.now) member }
-        ensures number { HasNumber member result }
-    {
-        self.members.get(member)
-    }
-
     // Makes the ticket judged, if the code answers that its bundle is met.
     pub fn judge<C: DesignCode>(
         &mut self,
         code: &C,
-        t: Unjudged,
-    ) -> Result<Judged, (BookFault, Unjudged)>
-        ensures said { result ≡ trades (judged t.number) t (order_refusal (C.DesignCode.meaning code.now).rule (ledger_of self.old) (judge t.number)) }
-        ensures after { ledger_of self.new ≡ after_order (C.DesignCode.meaning code.now).rule (ledger_of self.old) (judge t.number) }
+        ticket: Ticket<Unjudged>,
+    ) -> Result<Ticket<Judged>, (BookFault, Ticket<Unjudged>)>
+        ensures said { result ≡ trades (in_hand ticket.number) ticket (order_refusal (C.DesignCode.meaning code.now).rule (ledger_of self.old) (judge ticket.number)) }
+        ensures after { ledger_of self.new ≡ after_order (C.DesignCode.meaning code.now).rule (ledger_of self.old) (judge ticket.number) }
         ensures past { Past self.old self.new }
-        ensures refused { OnErr result (Unchanged self.old self.new) }
+        ensures refused { OnErr result (self.new ≡ self.old) }
     {
-        let number = t.number;
-        let Some(row) = self.row(number) else {
-            return Err((BookFault::NoTicket, t));
+        let number = ticket.number;
+        let row = match self.unjudged_in_hand(number) {
+            Ok(row) => row,
+            Err(fault) => return Err((fault, ticket)),
         };
-        if !in_hand(&row) {
-            return Err((BookFault::NoTicket, t));
+        if let Err(fault) = ask_some(code, self.stock.bundle_of(&row), &row) {
+            return Err((fault, ticket));
         }
-        if is_judged(&row) {
-            return Err((BookFault::OtherState, t));
-        }
-        match ask_some(code, self.stock.bundle_of(&row), &row) {
-            Ok(()) => {
-                let stage = Stage::Ticket {
-                    judged: true,
-                    in_hand: true,
-                };
-                let _ = self.members.replace(restaged(row, stage));
-                spend_unjudged(t);
-                Ok(Judged {
-                    number,
-                    spent: false,
-                })
-            }
-            Err(fault) => Err((fault, t)),
-        }
+        let stage = Stage::Ticket {
+            judged: true,
+            in_hand: true,
+        };
+        self.members.replace(Member { stage, ..row }).unwrap();
+        ticket.spend();
+        Ok(Ticket::of(number))
     }
 
     // Gives a standing member another duration and other forces, if the code answers that it is met with them.
@@ -72,17 +50,15 @@ impl<'a> Book<'a> {
         code: &C,
         member: u32,
         duration: Duration,
-        axial: i32,
-        shear: u32,
-        moment: u32,
+        forces: RawForces,
     ) -> Result<(), BookFault>
-        ensures said { result ≡ refusal (C.DesignCode.meaning code.now).rule (ledger_of self.old) (Load member duration axial shear moment) }
-        ensures after { ledger_of self.new ≡ next (C.DesignCode.meaning code.now).rule (ledger_of self.old) (Load member duration axial shear moment) }
+        ensures said { result ≡ refusal (C.DesignCode.meaning code.now).rule (ledger_of self.old) (Load member duration forces) }
+        ensures after { ledger_of self.new ≡ next (C.DesignCode.meaning code.now).rule (ledger_of self.old) (Load member duration forces) }
         ensures past { Past self.old self.new }
-        ensures refused { OnErr result (Unchanged self.old self.new) }
+        ensures refused { OnErr result (self.new ≡ self.old) }
     {
-        let _ = MemberNumber::in_field(2, member)?;
-        let forces = Forces::measured(4, axial, shear, moment)?;
+        MemberNumber::in_field(2, member)?;
+        let forces = Forces::measured(4, forces)?;
         self.load_measured(code, member, duration, forces)
     }
 
@@ -96,22 +72,17 @@ impl<'a> Book<'a> {
         ensures said { result ≡ order_refusal (C.DesignCode.meaning code.now).rule (ledger_of self.old) (load member duration forces) }
         ensures after { ledger_of self.new ≡ after_order (C.DesignCode.meaning code.now).rule (ledger_of self.old) (load member duration forces) }
         ensures past { Past self.old self.new }
-        ensures refused { OnErr result (Unchanged self.old self.new) }
+        ensures refused { OnErr result (self.new ≡ self.old) }
     {
-        let Some(row) = self.row(member) else {
-            return Err(BookFault::NotStanding);
+        let row = self.standing_member(member).ok_or(BookFault::NotStanding)?;
+        let changed = Member {
+            duration,
+            forces,
+            ..row
         };
-        if !is_standing(&row) {
-            return Err(BookFault::NotStanding);
-        }
-        let changed = reload(row, duration, forces);
-        match ask_any(code, self.stock.bundle_of(&changed), &changed) {
-            Ok(()) => {
-                let _ = self.members.replace(changed);
-                Ok(())
-            }
-            Err(fault) => Err(fault),
-        }
+        ask_any(code, self.stock.bundle_of(&changed), &changed)?;
+        self.members.replace(changed).unwrap();
+        Ok(())
     }
 
     // Asks whether a standing member is met with one of its culms out; the culm is back however this ends.
@@ -124,10 +95,10 @@ impl<'a> Book<'a> {
         ensures said { result ≡ refusal (C.DesignCode.meaning code.now).rule (ledger_of self.old) (JudgeWithout member culm) }
         ensures after { ledger_of self.new ≡ ledger_of self.old }
         ensures past { Past self.old self.new }
-        ensures refused { OnErr result (Unchanged self.old self.new) }
+        ensures refused { OnErr result (self.new ≡ self.old) }
     {
-        let _ = MemberNumber::in_field(2, member)?;
-        let _ = CulmNumber::in_field(3, culm)?;
+        MemberNumber::in_field(2, member)?;
+        CulmNumber::in_field(3, culm)?;
         self.without_measured(code, member, culm)
     }
 
@@ -140,18 +111,11 @@ impl<'a> Book<'a> {
         ensures said { result ≡ order_refusal (C.DesignCode.meaning code.now).rule (ledger_of self.old) (judge_without member culm) }
         ensures after { ledger_of self.new ≡ ledger_of self.old }
         ensures past { Past self.old self.new }
-        ensures refused { OnErr result (Unchanged self.old self.new) }
+        ensures refused { OnErr result (self.new ≡ self.old) }
     {
-        let Some(row) = self.row(member) else {
-            return Err(BookFault::NotStanding);
-        };
-        if !is_standing(&row) {
-            return Err(BookFault::NotStanding);
-        }
-        let Some(found) = self.stock.get(culm) else {
-            return Err(BookFault::CulmUnknown);
-        };
-        if !stands_in(&found, member) {
+        let row = self.standing_member(member).ok_or(BookFault::NotStanding)?;
+        let found = self.stock.get(culm).ok_or(BookFault::CulmUnknown)?;
+        if !found.stands_in(member) {
             return Err(BookFault::NotOfBundle);
         }
         let bundle = self.stock.bundle_without(row, culm);

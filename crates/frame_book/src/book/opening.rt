@@ -1,71 +1,45 @@
-ghost use Rattle.std.specs.Prelude.{◌≡◌};
+ghost use Rattle.std.specs.Prelude.{◌≡◌, OnErr};
 ghost use Rattle.design_code.specs.Meaning.{Rule};
 ghost use Rattle.ledger.specs.Orders.Order.{open_ticket};
-ghost use Rattle.ledger.specs.Table.{next};
+ghost use Rattle.ledger.specs.Table.{next, refusal, order_refusal, after_order};
 ghost use Rattle.ledger.specs.declared.call.Call.TheVariants.{Open};
-ghost use Rattle.stock.specs.Stocks.{OnErr};
-ghost use Rattle.frame_book.specs.Books.{ledger_of, Past, Unchanged};
-ghost use Rattle.frame_book.specs.Calls.{refusal, order_refusal, after_order};
-ghost use Rattle.frame_book.specs.Tickets.{unjudged, gives};
+ghost use Rattle.frame_book.specs.Books.{ledger_of, Past};
+ghost use Rattle.frame_book.specs.Tickets.{in_hand, gives};
 
+use crate::book::define::stated;
 use crate::book::{Book, MOST_TICKETS};
-use crate::places::class_number;
-use crate::stage::IsOpen;
-use crate::ticket::Unjudged;
+use crate::ticket::{Ticket, Unjudged};
+use ledger::call::Opening;
 use ledger::fault::BookFault;
 use ledger::member::{Member, Stage};
 use quantities::duration::Duration;
 use quantities::forces::Forces;
 use quantities::numbers::{ClassNumber, EffectiveLength, MemberNumber};
-use stock::counting::count;
 
 impl<'a> Book<'a> {
     // Makes an unjudged ticket, in hand.
-    pub fn open(
-        &mut self,
-        member: u32,
-        length: u32,
-        class: u32,
-        duration: Duration,
-        axial: i32,
-        shear: u32,
-        moment: u32,
-    ) -> Result<Unjudged, BookFault>
-        ensures said { (rule : Rule) → result ≡ gives (unjudged member) (refusal rule (ledger_of self.old) (Open member length class duration axial shear moment)) }
-        ensures after { (rule : Rule) → ledger_of self.new ≡ next rule (ledger_of self.old) (Open member length class duration axial shear moment) }
+    pub fn open(&mut self, opening: Opening) -> Result<Ticket<Unjudged>, BookFault>
+        ensures said { (rule : Rule) → result ≡ gives (in_hand opening.member) (refusal rule (ledger_of self.old) (Open opening)) }
+        ensures after { (rule : Rule) → ledger_of self.new ≡ next rule (ledger_of self.old) (Open opening) }
         ensures past { Past self.old self.new }
-        ensures refused { OnErr result (Unchanged self.old self.new) }
+        ensures refused { OnErr result (self.new ≡ self.old) }
     {
-        match self.enter_ticket(member, length, class, duration, axial, shear, moment) {
-            Ok(()) => Ok(Unjudged {
-                number: member,
-                spent: false,
-            }),
-            Err(fault) => Err(fault),
-        }
+        self.enter_ticket(opening)?;
+        Ok(Ticket::of(opening.member))
     }
 
     // Enters a new ticket, from plain numbers.
-    pub(super) fn enter_ticket(
-        &mut self,
-        member: u32,
-        length: u32,
-        class: u32,
-        duration: Duration,
-        axial: i32,
-        shear: u32,
-        moment: u32,
-    ) -> Result<(), BookFault>
-        ensures said { (rule : Rule) → result ≡ refusal rule (ledger_of self.old) (Open member length class duration axial shear moment) }
-        ensures after { (rule : Rule) → ledger_of self.new ≡ next rule (ledger_of self.old) (Open member length class duration axial shear moment) }
+    pub(super) fn enter_ticket(&mut self, opening: Opening) -> Result<(), BookFault>
+        ensures said { (rule : Rule) → result ≡ refusal rule (ledger_of self.old) (Open opening) }
+        ensures after { (rule : Rule) → ledger_of self.new ≡ next rule (ledger_of self.old) (Open opening) }
         ensures past { Past self.old self.new }
-        ensures refused { OnErr result (Unchanged self.old self.new) }
+        ensures refused { OnErr result (self.new ≡ self.old) }
     {
-        let _ = MemberNumber::in_field(2, member)?;
-        let length = EffectiveLength::in_field(3, length)?;
-        let class = class_number(4, class)?;
-        let forces = Forces::measured(6, axial, shear, moment)?;
-        self.open_measured(member, length, class, duration, forces)
+        MemberNumber::in_field(2, opening.member)?;
+        let length = EffectiveLength::in_field(3, opening.length)?;
+        let class = ClassNumber::in_field(4, opening.class)?;
+        let forces = Forces::measured(6, opening.forces)?;
+        self.open_measured(opening.member, length, class, opening.duration, forces)
     }
 
     // Takes a member's row for a new ticket.
@@ -80,16 +54,13 @@ impl<'a> Book<'a> {
         ensures said { (rule : Rule) → result ≡ order_refusal rule (ledger_of self.old) (open_ticket member length class.value duration forces) }
         ensures after { (rule : Rule) → ledger_of self.new ≡ after_order rule (ledger_of self.old) (open_ticket member length class.value duration forces) }
         ensures past { Past self.old self.new }
-        ensures refused { OnErr result (Unchanged self.old self.new) }
+        ensures refused { OnErr result (self.new ≡ self.old) }
     {
-        let defined = self.classes[(class.value - 1) as usize];
-        let Some(factors) = defined else {
-            return Err(BookFault::NotDefined);
-        };
-        if let Some(_) = self.members.get(member) {
+        let factors = stated(&self.classes, class.value)?;
+        if self.members.get(member).is_some() {
             return Err(BookFault::MemberKnown);
         }
-        if count(self.members.rows(), &IsOpen) >= MOST_TICKETS {
+        if self.open_tickets() >= MOST_TICKETS {
             return Err(BookFault::NoMemberRow);
         }
         let row = Member {
@@ -104,9 +75,6 @@ impl<'a> Book<'a> {
                 in_hand: true,
             },
         };
-        match self.members.insert(row) {
-            Ok(()) => Ok(()),
-            Err(_) => Err(BookFault::NoMemberRow),
-        }
+        self.members.insert(row).map_err(|_| BookFault::NoMemberRow)
     }
 }

@@ -18,7 +18,7 @@ impl Bundle {
         ensures basis { result.basis ≡ basis }
     {
         Bundle {
-            rows: [culm; 16],
+            rows: [culm; MOST_CULMS],
             count: 1,
             basis,
         }

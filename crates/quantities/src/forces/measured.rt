@@ -2,7 +2,7 @@ ghost use Rattle.std.specs.Prelude.{◌≡◌};
 ghost use Rattle.quantities.specs.Measures.{axial_force, forces};
 
 use crate::fault::MeasureFault;
-use crate::forces::{AxialForce, Forces};
+use crate::forces::{AxialForce, Forces, RawForces};
 use crate::within::Within;
 
 const AXIAL_LIMIT: u32 = 200000;
@@ -20,14 +20,14 @@ impl AxialForce {
 
 impl Forces {
     // The forces of which the axial force stands in the field `first`, then shear and moment.
-    pub fn measured(first: u8, axial: i32, shear: u32, moment: u32) -> Result<Forces, MeasureFault>
-        ensures { result ≡ forces first axial shear moment }
+    pub fn measured(first: u8, raw: RawForces) -> Result<Forces, MeasureFault>
+        ensures { result ≡ forces first raw }
     {
         let first = u16::from(first);
         Ok(Forces {
-            axial: AxialForce::in_field(first, axial)?,
-            shear: Within::in_field(first + 1, shear)?,
-            moment: Within::in_field(first + 2, moment)?,
+            axial: AxialForce::in_field(first, raw.axial)?,
+            shear: Within::in_field(first + 1, raw.shear)?,
+            moment: Within::in_field(first + 2, raw.moment)?,
         })
     }
 }

@@ -3,24 +3,19 @@ ghost use Rattle.quantities.specs.Measures.{readings, third_of};
 
 use crate::fault::MeasureFault;
 use crate::numbers::Percent;
-use crate::readings::{Diameter, DiameterScale, Readings, Wall, WallScale};
+use crate::readings::{Diameter, DiameterScale, RawReadings, Readings, Wall, WallScale};
 
 impl Readings {
     // The readings of which the diameter stands in the field `first`, then wall and straightness.
-    pub fn measured(
-        first: u8,
-        diameter: u32,
-        wall: u32,
-        straightness: u32,
-    ) -> Result<Readings, MeasureFault>
-        ensures { result ≡ readings first diameter wall straightness }
+    pub fn measured(first: u8, raw: RawReadings) -> Result<Readings, MeasureFault>
+        ensures { result ≡ readings first raw }
     {
         let first = u16::from(first);
-        DiameterScale::in_field(first, diameter)?;
-        WallScale::in_field(first + 1, wall)?;
-        let straightness = Percent::in_field(first + 2, straightness)?;
-        let diameter = Diameter::or_fault(diameter, MeasureFault::AtStop { field: first })?;
-        let wall = Wall::or_fault(wall, MeasureFault::AtStop { field: first + 1 })?;
+        DiameterScale::in_field(first, raw.diameter)?;
+        WallScale::in_field(first + 1, raw.wall)?;
+        let straightness = Percent::in_field(first + 2, raw.straightness)?;
+        let diameter = Diameter::or_fault(raw.diameter, MeasureFault::AtStop { field: first })?;
+        let wall = Wall::or_fault(raw.wall, MeasureFault::AtStop { field: first + 1 })?;
         Readings::of_parts(diameter, wall, straightness, first + 1)
     }
 
@@ -50,10 +45,12 @@ mod tests {
 
     // Number and place of the refusal of readings from field 4 on, or zeros where they are allowed.
     fn refusal(diameter: u32, wall: u32, straightness: u32) -> (u16, u16) {
-        match Readings::measured(4, diameter, wall, straightness) {
-            Ok(_) => (0, 0),
-            Err(fault) => (fault.number(), fault.place()),
-        }
+        let raw = RawReadings {
+            diameter,
+            wall,
+            straightness,
+        };
+        Readings::measured(4, raw).map_or_else(|fault| (fault.number(), fault.place()), |_| (0, 0))
     }
 
     #[test]

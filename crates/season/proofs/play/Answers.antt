@@ -1,6 +1,5 @@
 use Rattle.std.proofs.Common.{◌≡◌, [], ◌∷◌, ◌++◌, vec_items, rules}
 use Rattle.ledger.specs.Runs.{run, answers}
-use Rattle.ledger.specs.declared.call.Call.TheVariants.{DefineGrade}
 use Rattle.frame_book.specs.Books.{ledger_of}
 use Rattle.frame_book.proofs.Frames.{past_past}
 use Rattle.season.proofs.Turns.{one_more, all_played, whole_run}
@@ -15,7 +14,7 @@ loop-call-preserved g c =
     let inv = c.loop-call.invariant in
     let t =
     one_more rule (ledger_of c.loop-call.book) (ledger_of c.obey.new.self) (vec_items c.loop-call.answers) (vec_items c.push.new.self)
-    (answers rule before calls) (run rule before calls) calls c.loop-call.call-index (DefineGrade 0 0 0 0 0 0) c.obey.result c.loop-call-test.true
+    (answers rule before calls) (run rule before calls) calls c.loop-call.call-index _ c.obey.result c.loop-call-test.true
     c.obey.ensures.said c.obey.ensures.after pushed inv.0 inv.1 in
     (t.0, t.1, search rules, search rules, past_past inv.4 c.obey.ensures.past)
 

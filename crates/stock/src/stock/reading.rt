@@ -1,7 +1,7 @@
 ghost use Rattle.std.specs.Prelude.{◌≡◌, min, [], length};
 ghost use Rattle.keyed_table.specs.Rows.{lookup};
 ghost use Rattle.ledger.specs.Ledger.{culm_key};
-ghost use Rattle.stock.specs.Stocks.{held, room, Kept};
+ghost use Rattle.stock.specs.Stocks.{held, room};
 
 use crate::row::CulmRow;
 use crate::stock::{MOST_CULM_ROWS, Stock};
@@ -13,7 +13,6 @@ impl<'a> Stock<'a> {
     pub fn new(rows: &'a mut [CulmRow]) -> Stock<'a>
         ensures empty { held result ≡ [] }
         ensures room { room result ≡ min 4096 (length rows.old) }
-        ensures kept { Kept result }
     {
         Stock {
             rows: Table::new(rows, MOST_CULM_ROWS),
@@ -22,12 +21,8 @@ impl<'a> Stock<'a> {
 
     // The culm with this number.
     pub fn get(&self, number: u32) -> Option<Culm>
-        requires kept { Kept self.now }
         ensures { result ≡ lookup culm_key number (held self.now) }
     {
-        match self.rows.get(number) {
-            Some(row) => Some(row.culm),
-            None => None,
-        }
+        self.rows.get(number).map(|row| row.culm)
     }
 }

@@ -1,13 +1,23 @@
-use Rattle.std.proofs.Common.{sum_by, ◌∙◌, ap₂}
+use Rattle.std.proofs.Common.{◌≡◌, arith, rules}
 use Rattle.quantities.specs.Bundles.{culms_of}
 use Rattle.quantities.proofs.Bundled.{culms_few}
-use Rattle.capacity.specs.Shares.{shear_share}
-use Rattle.capacity.proofs.Rounded.{shear_figured, shear_small, carried}
+use Rattle.capacity.specs.Figures.{shear_figure}
+use Rattle.capacity.proofs.Rounded.{shear_figured, shear_small}
+use Rattle.capacity.proofs.Summed.{culms_fit}
 use Rattle.capacity.proofs.figures.shear_figure.Goals as goal
 
-pub returns : goal.returns
-returns c =
+pub sum-units-requires-clause-fits : goal.sum-units-requires-clause-fits
+sum-units-requires-clause-fits c =
+    culms_fit c.args.bundle.now _ _ (cc) c.map.ensures.closure (λ x r q k. search rules)
+
+pub invariant_of-result : goal.invariant_of-result
+invariant_of-result c =
     let b = c.args.bundle.now in
-    let e = c.total.ensures ∙ ap₂ (λ k cs. sum_by (shear_share k) cs) c.factored_strength-strength.ensures c.culms.ensures in
-    let t = carried e (shear_figured (culms_of b) b.basis) (shear_small (culms_of b) b.basis (culms_few b)) in
-    record { value = e; figured = t.0; bound = t.1 }
+    let e : c.sum-units.result ≡ shear_figure (culms_of b) b.basis = search rules in
+    record { below = omega (arith, e, shear_small (culms_of b) b.basis (culms_few b)) }
+
+pub returns-clause-figured : goal.returns-clause-figured
+returns-clause-figured c =
+    let b = c.args.bundle.now in
+    let e : c.sum-units.result ≡ shear_figure (culms_of b) b.basis = search rules in
+    rw e (shear_figured (culms_of b) b.basis)

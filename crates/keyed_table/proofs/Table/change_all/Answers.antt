@@ -1,15 +1,21 @@
-use Rattle.std.proofs.Common.{◌≡◌, ◌-◌, ◌++◌, map, take, drop, refl, ap, ◌∙◌}
-use native.Mathlib.Nat.{sub-zero}
-use Rattle.keyed_table.specs.Tables.{content}
-use Rattle.keyed_table.proofs.Frames.{changes}
+use Rattle.std.proofs.Common.{refl, sym, ap, map, ◌∙◌, subst}
+use Rattle.keyed_table.specs.Tables.{Changed}
+use Rattle.keyed_table.proofs.Frames.{changes, again, changed}
 use Rattle.keyed_table.proofs.Table.change_all.Goals as goal
+
+pub invariant_of-self : goal.invariant_of-self
+invariant_of-self g c =
+    let t = c.args.self.now in
+    again t _ _ _ (changes t _ c.change_rows.new.rows c.change_rows.ensures.numbers refl)
 
 pub returns : goal.returns
 returns g c =
     let t = c.args.self.now in
-    let does = g.C.Change.does c.args.change.now in
-    let rows : c.change_rows.new.rows ++ drop (t.used - 0) t.rows.now ≡ map does (content t) ++ drop t.used t.rows.now =
-    ap (λ xs. xs ++ drop (t.used - 0) t.rows.now) c.change_rows.ensures.rows
-    ∙ ap (λ n. map does (take n t.rows.now) ++ drop n t.rows.now) (sub-zero t.used) in
-    let all = changes g.R.Numbered.key does (g.met.C.Change.numbers c.args.change.now) t _ c.requires.sound rows refl refl refl in
-    record { change = all.0; sound = all.1 }
+    let rewritten = changes t _ c.change_rows.new.rows c.change_rows.ensures.numbers refl in
+    let becomes = changed t _ _ rewritten refl refl in
+    record {
+      change = λ does computes.
+          subst (Changed t _) (c.change_rows.ensures.rows does computes) becomes;
+      frame = subst (Changed t _) (sym becomes.holds) becomes;
+      numbers = ap (map g.R.Numbered.key) becomes.holds ∙ c.change_rows.ensures.numbers;
+    }

@@ -1,25 +1,26 @@
-use Rattle.std.proofs.Common.{◌≡◌, ◌+◌, set, sym, ap, ◌∙◌, arith}
-use Rattle.std.proofs.lemmas.List.Edits.{get_or-insert_at}
-use Rattle.std.proofs.lemmas.List.{length-take-le}
-use Rattle.keyed_table.proofs.Overwriting.{overwritten_none, overwritten_more, overwritten_all, length_in, front_in, next_in}
+use Rattle.std.proofs.Common.{◌≡◌, ◌+◌, ◌-◌, ◌++◌, ◌∷◌, [], take, drop, get_or, set, sym, ap, ap₂, ◌∙◌, arith}
+use Rattle.std.proofs.lemmas.List.{append_assoc, drop-take, length-take-le, set_at, take-take, take_more}
 use Rattle.keyed_table.proofs.shift.shift_in.Goals as goal
-
-pub loop-place-init : goal.loop-place-init
-loop-place-init g c =
-    let n = length-take-le c.args.used c.args.rows.now (omega arith) in
-    (overwritten_none _ _ _ (front_in _ _ _ _ c.requires.place c.requires.room), sym (get_or-insert_at _ c.args.at _ _ (omega arith)))
-
-pub loop-place-preserved : goal.loop-place-preserved
-loop-place-preserved g c =
-    let n = length_in c.args.rows.now c.args.used c.args.at c.args.row c.requires.place c.requires.room in (
-      overwritten_more _ _ _ _ _ (omega arith) (omega arith) c.loop-place.invariant.0 c.loop-place.invariant.1,
-      next_in _ _ _ _ _ _ _ (omega arith) (omega arith) c.requires.room c.loop-place.invariant.0 c.index-rows-place.is,
-    )
 
 pub returns : goal.returns
 returns g c =
-    let n = length_in c.args.rows.now c.args.used c.args.at c.args.row c.requires.place c.requires.room in
-    let last : c.loop-place.place ≡ c.args.used = omega arith in
-    let written = overwritten_all _ c.args.rows.now _ (c.loop-place.place + 1) (c.args.used + 1) (omega arith) (omega arith)
-    (overwritten_more _ _ _ _ _ (omega arith) (omega arith) c.loop-place.invariant.0 c.loop-place.invariant.1) in
-    record { rows = ap (λ k. set c.loop-place.rows k c.loop-place.carried) (sym last) ∙ written }
+    let rows = c.args.rows.now in
+    let row = c.args.row in
+    let at = c.args.at in
+    let used = c.args.used in
+    let before = take at rows in
+    let moved = take (used - at) (drop at rows) in
+    let past = drop (used + 1) rows in
+    let whole : at + (used - at) ≡ used = omega arith in
+    let end : at + 1 + (used - at) ≡ used + 1 = omega arith in
+    let split = take_more rows at row (omega arith) in
+    let join = append_assoc before (get_or rows at row ∷ []) moved in
+    let front = sym (take-take at used rows (omega arith)) in
+    let back = sym (drop-take at (used - at) rows) ∙ ap (λ n. drop at (take n rows)) whole in
+    record {
+      rows = ap (λ xs. set xs at row) (c.copy_within.ensures.after ∙ ap₂ (λ xs n. (xs ++ moved) ++ drop n rows) split end
+          ∙ ap (λ xs. xs ++ past) join ∙ append_assoc before (get_or rows at row ∷ moved) past)
+          ∙ set_at before _ _ row at (length-take-le at rows (omega arith))
+          ∙ sym (append_assoc before (row ∷ moved) past)
+          ∙ ap₂ (λ xs ys. (xs ++ row ∷ ys) ++ past) front back;
+    }

@@ -1,11 +1,7 @@
-use Rattle.std.proofs.Common.{length, rules}
-use Rattle.std.proofs.lemmas.List.{at_drop_more, at_drop_all}
-use Rattle.line_fields.specs.Cuts.{fields_of}
-use Rattle.line_fields.proofs.Tabs.{same_count}
+use Rattle.std.proofs.Common.{arith}
+use Rattle.std.proofs.lemmas.List.Splits.{length-slice_split}
+use Rattle.std.proofs.lemmas.Grind.{common_steps}
 use Rattle.line_fields.proofs.fields.behind_first.Goals as goal
 
-pub loop-byte-preserved : goal.loop-byte-preserved
-loop-byte-preserved c = search (rules, at_drop_more (λ x. length (fields_of x)) c.args.line.now, same_count)
-
-pub returns : goal.returns
-returns c = search (rules, at_drop_all (λ x. length (fields_of x)))
+pub returns-clause-count : goal.returns-clause-count
+returns-clause-count c = grind (arith, common_steps, length-slice_split)

@@ -1,24 +1,16 @@
-use Rattle.std.proofs.Common.{Ok, sym, ap, ◌∙◌}
-use Rattle.quantities.specs.Measures.{within}
-use Rattle.quantities.specs.declared.fault.MeasureFault.TheVariants.{OutOfRange}
-use Rattle.ledger.specs.Orders.Order.{check_in}
-use Rattle.ledger.specs.Table.{next_of}
-use Rattle.frame_book.specs.Books.{ledger_of}
-use Rattle.frame_book.specs.Calls.{refusal_of, order_refusal}
-use Rattle.frame_book.proofs.Measured.{through}
-use Rattle.frame_book.proofs.Traded.{let_go, on_let_go}
+use Rattle.std.proofs.Common.{rules}
 use Rattle.frame_book.proofs.book.Book.check_in_by.Goals as goal
 
-pub returns : goal.returns
-returns c =
-    let l = ledger_of c.args.self.now in
-    let m = c.args.member in
-    let order = sym (through c.in_ok-in_field.field-0 (within 1 9999 m (OutOfRange 2)) (λ _. Ok (check_in m)) c.in_ok-in_field.ensures) in
-    record {
-      said = λ rule.
-          let_go tt _ (order_refusal rule l (check_in m)) c.check_in.result c.let_go.result c.let_go.ensures (c.check_in.ensures.said rule)
-          ∙ ap (refusal_of rule l) order;
-      after = λ rule. c.check_in.ensures.after rule ∙ ap (next_of rule l) order;
-      past = c.check_in.ensures.past;
-      refused = on_let_go _ c.check_in.result c.let_go.result c.let_go.ensures c.check_in.ensures.refused;
-    }
+pub returns-clause-said : goal.returns-clause-said
+returns-clause-said c rule =
+    let said = c.check_in.ensures.said rule in
+    let ticket = c.of.ensures in
+    let held = c.in_ok-in_field.ensures.held in
+    search rules
+
+pub returns-clause-after : goal.returns-clause-after
+returns-clause-after c rule =
+    let after = c.check_in.ensures.after rule in
+    let ticket = c.of.ensures in
+    let held = c.in_ok-in_field.ensures.held in
+    search rules

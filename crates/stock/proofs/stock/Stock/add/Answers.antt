@@ -3,4 +3,4 @@ use Rattle.stock.proofs.Moving.{small_added}
 use Rattle.stock.proofs.stock.Stock.add.Goals as goal
 
 pub insert-requires : goal.insert-requires
-insert-requires c = record { kept = c.requires.kept; small = small_added c.args.self.now c.requires.kept _ refl }
+insert-requires c = record { small = small_added c.args.self.now _ refl }

@@ -2,15 +2,15 @@ use Rattle.std.proofs.Common.{refl, ap, ◌∙◌}
 use Rattle.keyed_table.specs.Tables.{content}
 use Rattle.stock.specs.Rows.{culms_in}
 use Rattle.stock.proofs.Ghosts.{keeps}
-use Rattle.stock.proofs.Wrapped.{replaced_wrapped, all_clear, clear_replaced}
+use Rattle.stock.proofs.Moving.{clear}
+use Rattle.stock.proofs.Wrapped.{replaced_wrapped, clear_replaced}
 use Rattle.stock.proofs.stock.Stock.put.Goals as goal
 
-pub returns : goal.returns
-returns c =
-    let rows = content c.args.self.now.rows in
-    record {
-      after = ap culms_in c.replace.ensures.change.holds ∙ replaced_wrapped _ (content c.args.self.now.rows);
-      beyond = record { limit = c.replace.ensures.change.limit; rows = c.replace.ensures.change.past };
-      kept = keeps c.replace.new.self _ _ c.replace.ensures.sound c.replace.ensures.change.holds
-          (clear_replaced _ rows refl (all_clear rows c.requires.kept.1)) (replaced_wrapped _ rows) c.requires.small;
-    }
+pub invariant_of-self : goal.invariant_of-self
+invariant_of-self c =
+    let s = c.args.self.now in
+    let rows = content s.rows in
+    keeps _ _ _ c.replace.ensures.change.holds (clear_replaced _ rows refl (clear s)) (replaced_wrapped _ rows) c.requires.small
+
+pub returns-clause-after : goal.returns-clause-after
+returns-clause-after c = ap culms_in c.replace.ensures.change.holds ∙ replaced_wrapped _ (content c.args.self.now.rows)

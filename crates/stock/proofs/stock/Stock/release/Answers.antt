@@ -1,6 +1,5 @@
-use Rattle.std.proofs.Common.{◌≡◌, ℕ, ◌≤◌, length, refl, subst}
-use Rattle.ledger.specs.Ledger.{part_of, dropped}
-use Rattle.ledger.specs.declared.culm.Culm.{Culm}
+use Rattle.std.proofs.Common.{◌≡◌, ℕ, refl}
+use Rattle.ledger.specs.Ledger.{dropped}
 use Rattle.ledger.specs.declared.culm.Place.{Place}
 use Rattle.ledger.specs.declared.culm.Place.TheVariants.{Rack, Held, Standing}
 use Rattle.ledger.proofs.Kept.{length_dropped}
@@ -14,9 +13,5 @@ same m Rack = refl
 same m (Held k) = refl
 same m (Standing k) = refl
 
-less : (m k : ℕ) (c : Culm) → length (part_of k c (place_after c.place (E.Drop m))) ≤ length (part_of k c c.place)
-less m k c = subst (λ p. length (part_of k c p) ≤ length (part_of k c c.place)) (same m c.place) (length_dropped m k c c.place)
-
 pub meet_all-requires : goal.meet_all-requires
-meet_all-requires c =
-    record { kept = c.requires.kept; small = small_all c.args.self.now c.requires.kept (λ x. place_after x.place (E.Drop c.args.member)) (less c.args.member) }
+meet_all-requires c = record { small = small_all c.args.self.now (dropped c.args.member) (E.Drop c.args.member) (same c.args.member) (length_dropped c.args.member) }

@@ -1,8 +1,0 @@
-use Rattle.std.proofs.Common.{◌*◌, ap, mul-le-mul, arith}
-use Rattle.capacity.proofs.terms.fourth.Goals as goal
-
-pub returns : goal.returns
-returns c = record {
-  value = ap (λ n. n * c.args.x) c.cube.ensures.value;
-  bound = omega (arith, mul-le-mul c.cube.ensures.bound c.requires);
-}

@@ -1,5 +1,0 @@
-use Rattle.shop_code.specs.Alike.{units_same}
-use Rattle.shop_code.proofs.figures.measured.tension_units.Goals as goal
-
-pub returns : goal.returns
-returns c = units_same _ _ c.tension_figure-units.ensures.value
