@@ -18,6 +18,8 @@ use quantities::numbers::Percent;
 use quantities::readings::Readings;
 use quantities::within::Within;
 
+// Each figure by its own function: strength, part and capacity are those of one formula of the rules.
+
 // M_r from below, in 1/32768 newton metre.
 pub fn moment_figure(bundle: &Bundle) -> MomentFigure
     ensures value { result.units ≡ moment_figure (culms_of bundle.now) bundle.now.basis }

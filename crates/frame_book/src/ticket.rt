@@ -82,6 +82,7 @@ impl AnyTicket {
         }
     }
 
+    // As of a ticket in one state: the two have no type in common.
     pub(crate) fn let_go(refused: (BookFault, AnyTicket)) -> BookFault
         ensures { result ≡ refused.0 }
     {

@@ -58,7 +58,7 @@ fn duration_of(text: &[u8]) -> Option<Duration>
     }
 }
 
-// The call that the fields make, read from left to right.
+// The call that the fields make, read from left to right: one function a kind of line, by the names of its fields.
 
 fn grade_call(fields: GradeFields<'_>) -> Result<Call, LineFault>
     ensures { result ≡ grade_call (grade_fields fields.entry) }

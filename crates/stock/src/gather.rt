@@ -32,7 +32,7 @@ fn extend(bundle: Option<Bundle>, culm: Culm, member: &Member) -> Bundle
     }
 }
 
-// The bundle of `member` among the rows; none where it has no culm.
+// The bundle of `member` among the rows; none where it has no culm. That it is small is asked: rows do not know it, a stock does.
 pub fn gather(rows: &[CulmRow], member: &Member) -> Option<Bundle>
     requires { length (bundle_in member.now.number rows.now) ≤ 16 }
     ensures { as_question result member.now ≡ question_of (bundle_in member.now.number rows.now) member.now }

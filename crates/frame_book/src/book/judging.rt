@@ -28,6 +28,7 @@ impl<'a> Book<'a> {
         ensures refused { OnErr result (self.new ≡ self.old) }
     {
         let number = ticket.number;
+        // By match, since a refusal gives the ticket back.
         let row = match self.unjudged_in_hand(number) {
             Ok(row) => row,
             Err(fault) => return Err((fault, ticket)),

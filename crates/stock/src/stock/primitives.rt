@@ -13,7 +13,7 @@ use keyed_table::Refusal;
 use ledger::culm::Culm;
 use ledger::fault::BookFault;
 
-// A refusal of the table, as the book's.
+// A refusal of the table, as the book's. No `From`: these faults speak of culms, and members are rows of such a table too.
 fn culm_fault(refusal: Refusal) -> BookFault
     ensures { result ≡ culm_fault refusal }
 {
