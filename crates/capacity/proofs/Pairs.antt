@@ -11,12 +11,12 @@ use Rattle.capacity.specs.declared.told.Capacity.{Capacity}
 use Rattle.capacity.specs.declared.told.Told.{Told}
 
 module _ (f s : ℕ) (some : 0 < s) (low high : Fraction) (figure : Figured f s low high) where
-  lower : AtMost (whole (f / s)) low
+  pub lower : AtMost (whole (f / s)) low
   lower =
       let h : s * (f / s * low.den) ≤ s * (low.num * 1) = omega (arith, figure.below, mul-le-mul_right low.den (div-mul-le_self f s)) in
       le_of_mul-le-mul_left h some
 
-  upper : AtMost high (whole (f * 1001 / (s * 1000) + 1))
+  pub upper : AtMost high (whole (f * 1001 / (s * 1000) + 1))
   upper =
       let n : ℕ = f * 1001 / (s * 1000) in
       let per : 0 < s * 1000 = omega arith in
@@ -24,7 +24,7 @@ module _ (f s : ℕ) (some : 0 < s) (low high : Fraction) (figure : Figured f s 
       let h : (s * 1000) * (high.num * 1) ≤ (s * 1000) * ((n + 1) * high.den) = omega (arith, figure.near, mul-le-mul_right high.den up) in
       le_of_mul-le-mul_left h per
 
-close : (f s : ℕ) → 0 < s → f * 1001 / (s * 1000) + 1 ≤ f / s + f / s / 1000 + 2
+pub close : (f s : ℕ) → 0 < s → f * 1001 / (s * 1000) + 1 ≤ f / s + f / s / 1000 + 2
 close f s some =
     let n : ℕ = f * 1001 / (s * 1000) in
     let q : ℕ = f / s in

@@ -69,10 +69,10 @@ module _ (cs : List Readings) (b : DesignBasis) (some : 0 < length cs) where
 
 -- m for modulus, w for straightness, g for second moment, l for length
 module _ (m w g l : ℕ) (hm : Lies 2000 200000 m) (hw : Lies 10 100 w) (hg : Lies 4183900000 255488383872016 g) (hl : Lies 500 8000 l) where
-  stiffness : Lies 83678000000000 5109767677440320000000 (m * w * g)
+  pub stiffness : Lies 83678000000000 5109767677440320000000 (m * w * g)
   stiffness = product_lies (product_lies hm hw) hg
 
-  span : Lies 250000 64000000 (l * l)
+  pub span : Lies 250000 64000000 (l * l)
   span = product_lies hl hl
 
   abbrev over_span : ℕ

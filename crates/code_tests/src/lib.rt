@@ -171,4 +171,41 @@ mod tests {
         assert_eq!(rt; appraise(&backwards.1, &culm, forces), by(2));
         Ok(())
     }
+
+    // Where a measure is refused for a field out of its range, that field, else 0.
+    fn out_of_range<T: Drop>(measured: Result<T, MeasureFault>) -> u16 {
+        match measured {
+            Err(MeasureFault::OutOfRange { field }) => field,
+            _ => 0,
+        }
+    }
+
+    fn grade(bending: u32, compression: u32, tension: u32, shear: u32, modulus: u32) -> u16 {
+        let raw = RawGrade {
+            bending,
+            compression,
+            tension,
+            shear,
+            modulus,
+        };
+        out_of_range(Grade::measured(3, raw))
+    }
+
+    #[test]
+    fn strengths_moduli_and_forces_end_where_the_rules_say(rt: HostRuntime) {
+        assert_eq!(rt; grade(10, 10, 10, 10, 200), 0);
+        assert_eq!(rt; grade(2000, 2000, 2000, 2000, 2000), 0);
+        assert_eq!(rt; grade(9, 10, 10, 10, 200), 3);
+        assert_eq!(rt; grade(2000, 2001, 2000, 2000, 2000), 4);
+        assert_eq!(rt; grade(10, 10, 9, 10, 200), 5);
+        assert_eq!(rt; grade(2000, 2000, 2000, 2001, 2000), 6);
+        assert_eq!(rt; grade(10, 10, 10, 10, 199), 7);
+        assert_eq!(rt; grade(2000, 2000, 2000, 2000, 2001), 7);
+        assert_eq!(rt; out_of_range(forces(200000, 200000, 50000)), 0);
+        assert_eq!(rt; out_of_range(forces(-200000, 0, 0)), 0);
+        assert_eq!(rt; out_of_range(forces(200001, 0, 0)), 6);
+        assert_eq!(rt; out_of_range(forces(-200001, 0, 0)), 6);
+        assert_eq!(rt; out_of_range(forces(0, 200001, 0)), 7);
+        assert_eq!(rt; out_of_range(forces(0, 0, 50001)), 8);
+    }
 }

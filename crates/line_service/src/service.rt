@@ -1,5 +1,5 @@
 //! A line service takes bytes in, and has its responder answer each line as soon as it is ended.
-ghost use Rattle.std.specs.Prelude.{◌≡◌, ◌≤◌, length};
+ghost use Rattle.std.specs.Prelude.{◌≡◌, ◌≤◌, length, alloc_error};
 
 use crate::LINE_LIMIT;
 use arrayvec::ArrayVec;
@@ -22,13 +22,12 @@ pub struct LineService<R> {
 #[derive(Clone, Copy, Debug, PartialEq, Eq)]
 pub struct Stopped {
     pub taken: usize,
-    error: AllocError,
 }
 
 impl From<Stopped> for AllocError {
-    ghost from_gives = { λ stopped error. error ≡ stopped.error };
+    ghost from_gives = { λ _ error. error ≡ alloc_error };
 
-    fn from(stopped: Stopped) -> AllocError {
-        stopped.error
+    fn from(_: Stopped) -> AllocError {
+        AllocError
     }
 }

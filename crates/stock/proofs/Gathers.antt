@@ -1,10 +1,9 @@
 -- What is gathered row by row. Assumes nothing.
-use Rattle.std.proofs.Common.{◌≡◌, ℕ, suc, Bool, true, false, cond, count_by, ◌+◌, ◌<◌, ◌≤◌, List, [], ◌∷◌, ◌++◌, length, get_or, take, Some, None, Option, sym, refl, ap, ◌∙◌, arith}
-use Rattle.std.specs.List.{flat_map, find}
-use Rattle.std.specs.Option.{option_map}
+use Rattle.std.proofs.Common.{◌≡◌, ℕ, zero, suc, Bool, true, false, cond, count_by, ◌+◌, ◌<◌, ◌≤◌, List, [], ◌∷◌, ◌++◌, length, get_or, take, drop, Some, None, Option, sym, refl, ap, ◌∙◌, arith}
+use Rattle.std.specs.List.{flat_map, AllWithin}
 use Rattle.std.proofs.lemmas.List.Sums.{sum_by-cons}
 use Rattle.std.proofs.lemmas.List.Folds.{length-flat_map-take}
-use Rattle.std.proofs.lemmas.List.{flat_map_more, take_more, map-append, length-map}
+use Rattle.std.proofs.lemmas.List.{flat_map_more, take_more, drop_more, drop_all, map-append, length-map}
 use Rattle.quantities.specs.Bundles.{culms_of}
 use Rattle.quantities.specs.declared.bundle.Bundle.{Bundle}
 use Rattle.ledger.specs.Ledger.{Piece, piece_of, basis_of, at}
@@ -18,7 +17,7 @@ use Rattle.stock.specs.Gathering.{extended, Room}
 use Rattle.stock.specs.Rows.{as_question, bundle_in, part_in, is_part}
 use Rattle.stock.specs.declared.row.CulmRow.{CulmRow}
 
-joined_next : {X Y : Type 0} (f : X → List Y) (xs : List X) (i : ℕ) (d : X) → i < length xs
+pub joined_next : {X Y : Type 0} (f : X → List Y) (xs : List X) (i : ℕ) (d : X) → i < length xs
     → flat_map f (take (i + 1) xs) ≡ flat_map f (take i xs) ++ f (get_or xs i d)
 joined_next f xs i d h = ap (flat_map f) (take_more xs i d h) ∙ sym (flat_map_more f [] (take i xs) (get_or xs i d))
 
@@ -27,7 +26,7 @@ question_more [] p m = refl
 question_more (q ∷ ps) p m = ap (λ z. Some (record { culms = q.readings ∷ z; basis = basis_of q.strengths m; forces = m.forces })) (map-append (λ x. x.readings) ps (p ∷ []))
 
 -- how many culms a gathered bundle has
-gathered_count : (b : Bundle) (ps : List Piece) (m : Member) → as_question (Some b) m ≡ question_of ps m → length (culms_of b) ≡ length ps
+pub gathered_count : (b : Bundle) (ps : List Piece) (m : Member) → as_question (Some b) m ≡ question_of ps m → length (culms_of b) ≡ length ps
 gathered_count b [] m e = no_none e
 gathered_count b (p ∷ ps) m e = ap (λ z. length z.culms) (inside e) ∙ length-map (p ∷ ps) (λ x. x.readings)
 
@@ -71,12 +70,23 @@ count_parts m (r ∷ rs) =
     ∙ one_counted (is_part m r) (piece_of r.culm) _ _ (count_parts m rs)
     ∙ sym (ap (λ ps. length (ps ++ bundle_in m rs)) (part_is m r))
 
-one_found : (b : Bool) (r : CulmRow) (o : Option CulmRow) (ps : List Piece) → option_map (λ x. x.culm.grade) o ≡ grade_held ps
-    → option_map (λ x. x.culm.grade) (cond b (Some r) o) ≡ grade_held (cond b (piece_of r.culm ∷ []) [] ++ ps)
-one_found true r o ps e = refl
-one_found false r o ps e = e
+-- rows in front of which none is a part
+pub none_before : (m : ℕ) (rows : List CulmRow) (n : ℕ) → n ≤ length rows → AllWithin (λ r. is_part m r ≡ false) rows 0 n → bundle_in m rows ≡ bundle_in m (drop n rows)
+none_before m rows zero h none = refl
+none_before m [] (suc n) h none = refl
+none_before m (r ∷ rs) (suc n) h none =
+    ap (λ ps. ps ++ bundle_in m rs) (part_is m r ∙ ap (λ b. cond b (piece_of r.culm ∷ []) []) (none 0 r (omega arith) (omega arith)))
+    ∙ none_before m rs n (omega (arith, h)) (λ k d low high. none (suc k) d (omega arith) (omega (arith, high)))
 
-pub first_part : (m : ℕ) (rows : List CulmRow) → option_map (λ r. r.culm.grade) (find (is_part m) rows) ≡ grade_held (bundle_in m rows)
-first_part m [] = refl
-first_part m (r ∷ rs) =
-    one_found (is_part m r) r _ _ (first_part m rs) ∙ sym (ap (λ ps. grade_held (ps ++ bundle_in m rs)) (part_is m r))
+-- rows of which none is a part
+pub no_parts : (m : ℕ) (rows : List CulmRow) → AllWithin (λ r. is_part m r ≡ false) rows 0 (length rows) → bundle_in m rows ≡ []
+no_parts m rows none = none_before m rows (length rows) (omega arith) none ∙ ap (bundle_in m) (drop_all (length rows) rows (omega arith))
+
+-- the first part tells the grade
+pub grade_of_first : (m : ℕ) (rows : List CulmRow) (i : ℕ) (d : CulmRow) → i < length rows → is_part m (get_or rows i d) ≡ true → AllWithin (λ r. is_part m r ≡ false) rows 0 i
+    → grade_held (bundle_in m rows) ≡ Some (get_or rows i d).culm.grade
+grade_of_first m rows i d h is none =
+    let r = get_or rows i d in
+    ap grade_held (none_before m rows i (omega (arith, h)) none
+    ∙ ap (bundle_in m) (drop_more rows i d h)
+    ∙ ap (λ ps. ps ++ bundle_in m (drop (i + 1) rows)) (part_is m r ∙ ap (λ b. cond b (piece_of r.culm ∷ []) []) is))

@@ -60,13 +60,13 @@ free_takes (Held k) c m = refl
 free_takes (Standing k) c m = refl
 
 -- an event that fits has passed its test
-passed : (b : Bool) (x y : Meeting) → Some x ≡ cond b (Some y) None → b ≡ true
+pub passed : (b : Bool) (x y : Meeting) → Some x ≡ cond b (Some y) None → b ≡ true
 passed true x y e = refl
 passed false x y e = no_none e
 
 -- a stock's bundles, and those with another culm, or with a culm in another place
 module _ (s : Stock) where
-  apart : Apart culm_key (held s)
+  pub apart : Apart culm_key (held s)
   apart = apart_rows 0 (content s.rows) (from row_key (content s.rows) s.rows.rising)
 
   pub clear : AllClear (content s.rows)
@@ -98,7 +98,7 @@ module _ (s : Stock) where
       (moved_few (held s) apart m n Rack c e (λ k other. sym (part_of_holder m k c c.place by other)) s.bundles_small (omega (arith, s.bundles_small m)))
 
 -- every culm moves, and gives no bundle more
-small_moved : (f : Culm → Place) → ((m : ℕ) (c : Culm) → length (part_of m c (f c)) ≤ length (part_of m c c.place)) → (cs : List Culm) (m : ℕ)
+pub small_moved : (f : Culm → Place) → ((m : ℕ) (c : Culm) → length (part_of m c (f c)) ≤ length (part_of m c c.place)) → (cs : List Culm) (m : ℕ)
     → length (bundle m (map (λ c. at (f c) c) cs)) ≤ length (bundle m cs)
 small_moved f less [] m = omega arith
 small_moved f less (c ∷ cs) m =

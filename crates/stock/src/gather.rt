@@ -1,4 +1,4 @@
-ghost use Rattle.std.specs.Prelude.{◌≡◌, ◌≤◌, length, Some, find};
+ghost use Rattle.std.specs.Prelude.{◌≡◌, ◌≤◌, length, Some};
 ghost use Rattle.ledger.specs.Ledger.{piece_of};
 ghost use Rattle.ledger.specs.Table.{question_of, grade_held};
 ghost use Rattle.stock.specs.Gathering.{extended, Room};
@@ -54,20 +54,26 @@ pub struct Extent {
     pub grade: Option<u32>,
 }
 
-// The first row of the bundle of `member`.
-fn first_of_bundle(rows: &[CulmRow], member: u32) -> Option<CulmRow>
-    ensures { result ≡ find (is_part member) rows.now }
+// How many of the rows are of the bundle of `member`.
+fn count_parts(rows: &[CulmRow], member: u32) -> usize
+    ensures { result ≡ length (bundle_in member rows.now) }
 {
-    rows.iter().copied().find(|row| row.is_part(member))
+    rows.iter().filter(|row| row.is_part(member)).count()
 }
 
-// The extent of the bundle of `member` among the rows.
+// The extent of the bundle of `member` among the rows. They are read once: the count begins at the row that tells the grade.
 pub fn extent_of(rows: &[CulmRow], member: u32) -> Extent
     ensures count { result.count ≡ length (bundle_in member rows.now) }
     ensures grade { result.grade ≡ grade_held (bundle_in member rows.now) }
 {
-    Extent {
-        count: rows.iter().filter(|row| row.is_part(member)).count(),
-        grade: first_of_bundle(rows, member).map(|row| row.culm.grade),
+    match rows.iter().position(|row| row.is_part(member)) {
+        Some(at) => Extent {
+            count: count_parts(&rows[at..], member),
+            grade: Some(rows[at].culm.grade),
+        },
+        None => Extent {
+            count: 0,
+            grade: None,
+        },
     }
 }

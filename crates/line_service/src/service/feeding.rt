@@ -40,8 +40,7 @@ impl<R: Responder> LineService<R> {
         while let Some(end) = rest.iter().position(|byte| *byte == LINE_END) {
             self.keep(&rest[..end]);
             let taken = chunk.len() - rest.len() + end;
-            self.end_line(out)
-                .map_err(|error| Stopped { taken, error })?;
+            self.end_line(out).map_err(|_| Stopped { taken })?;
             rest = &rest[end + 1..];
         }
         self.keep(rest);
